@@ -1,0 +1,30 @@
+-- Steps of a check that looks for the lowest number that is such.
+use Prim.Native.Nat.{ℕ, zero, suc, _+_, _-_, _<_, _≤_}
+use mathlib.Core.Path.{_≡_, refl, ap}
+use mathlib.Core.Bool.{Bool, true, false, cond}
+use native.Mathlib.Omega.{arith}
+use Rattle.units.specs.declared.fault.FaultKind.{FaultKind}
+use Rattle.meaning.specs.Checks.{Verdict, fine, fault, noneOf}
+
+module _ (k : FaultKind) (such : ℕ → Bool) where
+  step : (a n : ℕ) (b : Bool) → such a ≡ b → noneOf k such a (suc n) ≡ cond b (fault k a) (noneOf k such (suc a) n)
+  unfolding noneOf
+  step a n b e = ap (λ (z : Bool). cond z (fault k a) (noneOf k such (suc a) n)) e
+
+  none : (a : ℕ) → noneOf k such a 0 ≡ fine
+  unfolding noneOf
+  none a = refl
+
+  pub passed : (a n i : ℕ) → i < n → such (a + i) ≡ false → noneOf k such (a + i) (n - i) ≡ noneOf k such (a + (i + 1)) (n - (i + 1))
+  passed a n i l e =
+      let p : n - i ≡ suc (n - (i + 1)) = omega arith in
+      let q : suc (a + i) ≡ a + (i + 1) = omega arith in
+      let s = step (a + i) (n - (i + 1)) false e in cc
+
+  pub here : (a n i : ℕ) → i < n → such (a + i) ≡ true → noneOf k such (a + i) (n - i) ≡ fault k (a + i)
+  here a n i l e =
+      let p : n - i ≡ suc (n - (i + 1)) = omega arith in
+      let s = step (a + i) (n - (i + 1)) true e in cc
+
+  pub nowhere : (a n i : ℕ) → n ≤ i → noneOf k such (a + i) (n - i) ≡ fine
+  nowhere a n i l = let p : n - i ≡ 0 = omega arith in let s = none (a + i) in cc

@@ -1,0 +1,4 @@
+pub mod Part
+pub mod Reaching
+pub mod Words
+pub mod Verdicts
