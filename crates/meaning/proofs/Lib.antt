@@ -1,4 +1,8 @@
 pub mod Part
 pub mod Reaching
-pub mod Words
+pub mod Facts
 pub mod Verdicts
+pub mod Lists
+pub mod Unique
+pub mod Keeping
+pub mod Own

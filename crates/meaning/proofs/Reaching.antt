@@ -13,7 +13,7 @@ use Rattle.units.specs.declared.number.Frame.{Frame}
 use Rattle.meaning.specs.Mappings.{In, reachOf, reachThrough, onPage, firstPage, firstFrame, pageCount}
 use Rattle.meaning.specs.Worlds.{Setup}
 use Rattle.meaning.specs.Laws.{Bounds, Bounded}
-use Rattle.meaning.proofs.Words.{page-fact}
+use Rattle.meaning.proofs.Facts.{page-fact}
 
 -- an open mapping by which the frame is reached
 pub record Through (o : List Mapping) (c p : ℕ) (f : Frame) (r : Rights) : Type 0 where

@@ -11,7 +11,7 @@ use Rattle.units.specs.declared.direction.Direction.{Direction}
 use Rattle.units.specs.declared.direction.Direction.the-variants.{Both, ToCard, FromCard}
 use Rattle.units.specs.declared.fault.Fault.{Fault}
 use Rattle.units.specs.declared.mapping.Holder.{Holder}
-use Rattle.units.specs.declared.mapping.Holder.the-variants.{ByCard, ByCpu}
+use Rattle.units.specs.declared.mapping.Holder.the-variants.{ByCard}
 use Rattle.units.specs.declared.mapping.Mapping.{Mapping}
 use Rattle.units.specs.declared.mapping.Placement.{Placement}
 use Rattle.units.specs.declared.mapping.Reach.{Reach}
@@ -22,6 +22,7 @@ use Rattle.units.specs.declared.mapping.Sync.the-variants.{ForCpu, ForCard}
 use Rattle.units.specs.declared.report.Report.{Report}
 use Rattle.units.specs.Directions.{coded, rightsOf}
 use Rattle.units.specs.Faults.{isBlockKind}
+use Rattle.units.specs.Holders.{holderAfter}
 use Rattle.meaning.specs.Memory.{Bytes, bytesOf, within, copy, paste, readInto}
 use Rattle.meaning.specs.Mappings.{landsOn, insert, remove, turn, find}
 use Rattle.meaning.specs.Worlds.{Choice, World}
@@ -57,10 +58,6 @@ newMapping r p = record {
   landing = p .landing;
   holder = ByCard;
 }
-
-abbrev pub holderAfter : Sync → Holder
-holderAfter ForCpu = ByCpu
-holderAfter ForCard = ByCard
 
 -- what a call that is let pass leaves open
 abbrev pub accepted : World → List Mapping → Call → List Mapping

@@ -3,7 +3,7 @@ use mathlib.Core.Path.{_≡_}
 use mathlib.Core.List.{List, [], _∷_}
 use mathlib.Core.Bool.{Bool, true, false, cond, _&&_, _||_}
 use mathlib.Core.Logic.{_⊎_}
-use Prim.Native.Nat.{ℕ, _+_, _-_, _/_, _%_, _<_, _≤_}
+use Prim.Native.Nat.{ℕ, _+_, _-_, _*_, _/_, _%_, _^_, _<_, _≤_}
 use lib.Dec.{leb, ltb, eqb}
 use Rattle.std.specs.declared.option.Option.{Option}
 use Rattle.std.specs.declared.option.Option.the-variants.{Some, None}
@@ -83,13 +83,13 @@ abbrev pub Pairwise : (Mapping → Mapping → Type 0) → List Mapping → Type
 Pairwise R [] = Unit {0}
 Pairwise R (m ∷ o) = ((n : Mapping) → In n o → R m n) × Pairwise R o
 
--- open mappings have no order of their own: a list of them is by card and then device page
-abbrev pub before : Mapping → Mapping → Bool
-before m n = ltb (m .card .0) (n .card .0) || (eqb (m .card .0) (n .card .0) && ltb (firstPage m) (firstPage n))
+-- open mappings have no order of their own: a list of them is by card and then first device page, which is below 2^36
+abbrev pub key : Mapping → ℕ
+key m = m .card .0 * 2 ^ 36 + firstPage m
 
 unfoldable pub insert : Mapping → List Mapping → List Mapping
 insert m [] = m ∷ []
-insert m (n ∷ o) = cond (before m n) (m ∷ n ∷ o) (n ∷ insert m o)
+insert m (n ∷ o) = cond (ltb (key m) (key n)) (m ∷ n ∷ o) (n ∷ insert m o)
 
 unfoldable pub remove : ℕ → ℕ → List Mapping → List Mapping
 remove c v [] = []

@@ -12,3 +12,8 @@ turnedBy ByCard ForCpu = Some ByCpu
 turnedBy ByCard ForCard = None
 turnedBy ByCpu ForCpu = None
 turnedBy ByCpu ForCard = Some ByCard
+
+-- who holds after a sync
+abbrev pub holderAfter : Sync → Holder
+holderAfter ForCpu = ByCpu
+holderAfter ForCard = ByCard

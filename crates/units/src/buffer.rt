@@ -1,7 +1,7 @@
 // A driver's buffer in main memory.
 ghost use mathlib.Core.Path.{_≡_};
 ghost use mathlib.Core.Bool.{Bool};
-ghost use Prim.Native.Nat.{_+_, _/_, _%_};
+ghost use Prim.Native.Nat.{_+_, _/_, _%_, _≤_};
 ghost use Rattle.units.specs.Buffers.{span, whole};
 
 #[derive(Clone, Copy)]
@@ -13,7 +13,8 @@ pub struct Buffer {
 impl Buffer {
     // How many frames the buffer touches, for every address and length.
     pub fn span(self) -> u64
-        ensures { λ r. ⌜ r ≡ span (self .address) (self .length) ⌝ }
+        ensures value { λ r. ⌜ r ≡ span (self .address) (self .length) ⌝ }
+        ensures most { λ r. ⌜ r ≤ 1048577 ⌝ }
     {
         (self.address as u64 % 4096 + self.length as u64 + 4095) / 4096
     }

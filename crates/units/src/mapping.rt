@@ -1,6 +1,6 @@
 // What is asked of a mapper, and what it keeps open.
 ghost use mathlib.Core.Path.{_≡_};
-ghost use Rattle.units.specs.Holders.{turnedBy};
+ghost use Rattle.units.specs.Holders.{holderAfter, turnedBy};
 use crate::buffer::Buffer;
 use crate::direction::Direction;
 use crate::direction::Rights;
@@ -64,6 +64,18 @@ impl Holder {
             (Holder::ByCard, Sync::ForCpu) => Some(Holder::ByCpu),
             (Holder::ByCpu, Sync::ForCard) => Some(Holder::ByCard),
             _ => None,
+        }
+    }
+}
+
+impl Sync {
+    // Who holds the buffer after this sync.
+    pub fn holder(self) -> Holder
+        ensures { λ r. ⌜ r ≡ holderAfter self ⌝ }
+    {
+        match self {
+            Sync::ForCpu => Holder::ByCpu,
+            Sync::ForCard => Holder::ByCard,
         }
     }
 }

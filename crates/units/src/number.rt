@@ -19,6 +19,16 @@ pub struct DeviceAddress(pub u64);
 #[derive(Clone, Copy)]
 pub struct Card(pub u8);
 
+impl Frame {
+    // The frame that a memory address lies in.
+    pub fn of(address: u32) -> Frame
+        ensures value { λ r. ⌜ r .0 ≡ address / 4096 ⌝ }
+        ensures below { λ r. ⌜ r .0 < 1048576 ⌝ }
+    {
+        Frame(address / 4096)
+    }
+}
+
 impl DeviceAddress {
     // The device page that the address lies in.
     pub fn page(self) -> DevicePage

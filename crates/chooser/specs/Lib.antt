@@ -1,0 +1,4 @@
+pub mod Preference
+pub mod Gaps
+pub mod Finding
+pub mod Facts

@@ -1,0 +1,3 @@
+pub mod Facts
+pub mod Taking
+pub mod Laws
