@@ -38,7 +38,11 @@ fn note(reports: &mut [Report], card: Card, device: DeviceAddress, fault: Fault)
 {
     if fault.kind.is_block() {
         let count = reports[card.0 as usize].count.saturating_add(1);
-        let latest = Some(Block { device, kind: fault.kind, level: fault.place });
+        let latest = Some(Block {
+            device,
+            kind: fault.kind,
+            level: fault.place,
+        });
         reports[card.0 as usize] = Report { count, latest };
     }
 }
@@ -49,7 +53,13 @@ impl<M: Mapper> Engine<M> {
         ensures mapper { λ r. ⌜ r .mapper ≡ mapper ⌝ }
         ensures counted { λ r. ⌜ ((c : ℕ) → reportsOf (r .reports) c ≡ blank) ⌝ }
     {
-        Engine { mapper, reports: [Report { count: 0, latest: None }; 4] }
+        Engine {
+            mapper,
+            reports: [Report {
+                count: 0,
+                latest: None,
+            }; 4],
+        }
     }
 
     // Opens a mapping for a card, and answers its device address.
@@ -61,7 +71,14 @@ impl<M: Mapper> Engine<M> {
     }
 
     // Closes a mapping; where the card may write, the buffer's bytes are then what the card left.
-    pub fn unmap(&mut self, memory: &mut [u8], card: Card, direction: u8, device: DeviceAddress, length: u32) -> Result<(), Fault>
+    pub fn unmap(
+        &mut self,
+        memory: &mut [u8],
+        card: Card,
+        direction: u8,
+        device: DeviceAddress,
+        length: u32,
+    ) -> Result<(), Fault>
         requires { ⌜ sound (now self .mapper) ⌝ }
         ensures { λ r. ⌜ Made kind sound setup opened leaves (now (self .entry) .mapper) (now (self .exit) .mapper) (now (self .entry) .reports) (now (self .exit) .reports) (now (memory .entry)) (now (memory .exit)) (unmap (card .0) direction (device .0) length) (tellsDone r) ⌝ }
     {
@@ -69,7 +86,12 @@ impl<M: Mapper> Engine<M> {
     }
 
     // Hands a mapped buffer to the CPU.
-    pub fn sync_for_cpu(&mut self, memory: &mut [u8], card: Card, device: DeviceAddress) -> Result<(), Fault>
+    pub fn sync_for_cpu(
+        &mut self,
+        memory: &mut [u8],
+        card: Card,
+        device: DeviceAddress,
+    ) -> Result<(), Fault>
         requires { ⌜ sound (now self .mapper) ⌝ }
         ensures { λ r. ⌜ Made kind sound setup opened leaves (now (self .entry) .mapper) (now (self .exit) .mapper) (now (self .entry) .reports) (now (self .exit) .reports) (now (memory .entry)) (now (memory .exit)) (sync ForCpu (card .0) (device .0)) (tellsDone r) ⌝ }
     {
@@ -77,7 +99,12 @@ impl<M: Mapper> Engine<M> {
     }
 
     // Hands a mapped buffer back to the card.
-    pub fn sync_for_card(&mut self, memory: &mut [u8], card: Card, device: DeviceAddress) -> Result<(), Fault>
+    pub fn sync_for_card(
+        &mut self,
+        memory: &mut [u8],
+        card: Card,
+        device: DeviceAddress,
+    ) -> Result<(), Fault>
         requires { ⌜ sound (now self .mapper) ⌝ }
         ensures { λ r. ⌜ Made kind sound setup opened leaves (now (self .entry) .mapper) (now (self .exit) .mapper) (now (self .entry) .reports) (now (self .exit) .reports) (now (memory .entry)) (now (memory .exit)) (sync ForCard (card .0) (device .0)) (tellsDone r) ⌝ }
     {
@@ -85,7 +112,14 @@ impl<M: Mapper> Engine<M> {
     }
 
     // Reads for a card; a block is counted.
-    pub fn card_read(&mut self, memory: &[u8], card: Card, device: DeviceAddress, count: usize, out: &mut [u8]) -> Result<(), Fault>
+    pub fn card_read(
+        &mut self,
+        memory: &[u8],
+        card: Card,
+        device: DeviceAddress,
+        count: usize,
+        out: &mut [u8],
+    ) -> Result<(), Fault>
         requires { ⌜ sound (now self .mapper) ⌝ }
         ensures { λ r. ⌜ MadeRead kind sound setup opened leaves (now (self .entry) .mapper) (now (self .exit) .mapper) (now (self .entry) .reports) (now (self .exit) .reports) (now (memory .entry)) (now (out .entry)) (now (out .exit)) (cardRead (card .0) (device .0) count (now (out .entry))) (tellsBytes r (now (out .exit))) ⌝ }
     {
@@ -97,7 +131,13 @@ impl<M: Mapper> Engine<M> {
     }
 
     // Writes for a card; a block is counted.
-    pub fn card_write(&mut self, memory: &mut [u8], card: Card, device: DeviceAddress, bytes: &[u8]) -> Result<(), Fault>
+    pub fn card_write(
+        &mut self,
+        memory: &mut [u8],
+        card: Card,
+        device: DeviceAddress,
+        bytes: &[u8],
+    ) -> Result<(), Fault>
         requires { ⌜ sound (now self .mapper) ⌝ }
         ensures { λ r. ⌜ Made kind sound setup opened leaves (now (self .entry) .mapper) (now (self .exit) .mapper) (now (self .entry) .reports) (now (self .exit) .reports) (now (memory .entry)) (now (memory .exit)) (cardWrite (card .0) (device .0) (now (bytes .entry))) (tellsDone r) ⌝ }
     {
@@ -116,12 +156,16 @@ impl<M: Mapper> Engine<M> {
         if count == 0 || count > 64 || count > room {
             return Err(FaultKind::WrongLength.at(count as u64));
         }
-        let access = Buffer { address, length: count as u32 };
+        let access = Buffer {
+            address,
+            length: count as u32,
+        };
         let end = self.mapper.frames() as u64 * 4096;
         if memory.len() as u64 != end || access.end() > end {
             return Err(FaultKind::OutsideMemory.at(end));
         }
-        if let Some(frame) = self.mapper.lowest_reserved(address / 4096, access.span() as u32) {
+        if let Some(frame) = self.mapper
+            .lowest_reserved(address / 4096, access.span() as u32) {
             return Err(FaultKind::ReservedFrame.at(frame as u64));
         }
         match self.mapper.lowest_held(address, count as u32) {
@@ -131,7 +175,13 @@ impl<M: Mapper> Engine<M> {
     }
 
     // Reads 1 to 64 bytes for the CPU.
-    pub fn cpu_read(&self, memory: &[u8], address: u32, count: usize, out: &mut [u8]) -> Result<(), Fault>
+    pub fn cpu_read(
+        &self,
+        memory: &[u8],
+        address: u32,
+        count: usize,
+        out: &mut [u8],
+    ) -> Result<(), Fault>
         requires { ⌜ sound (now self .mapper) ⌝ }
         ensures { λ r. ⌜ MadeRead kind sound setup opened leaves (now (self .entry) .mapper) (now (self .entry) .mapper) (now (self .entry) .reports) (now (self .entry) .reports) (now (memory .entry)) (now (out .entry)) (now (out .exit)) (cpuRead address count (now (out .entry))) (tellsBytes r (now (out .exit))) ⌝ }
     {

@@ -108,12 +108,25 @@ pub trait Mapper {
         ensures { λ r. ⌜ Called kind sound setup opened leaves (now (self .entry)) (now (self .exit)) (now (memory .entry)) (now (memory .exit)) (map request) (tellsAt r) ⌝ };
 
     // Closes the mapping that starts at the device address, with that length and direction.
-    fn unmap(&mut self, memory: &mut [u8], card: Card, direction: u8, device: DeviceAddress, length: u32) -> Result<(), Fault>
+    fn unmap(
+        &mut self,
+        memory: &mut [u8],
+        card: Card,
+        direction: u8,
+        device: DeviceAddress,
+        length: u32,
+    ) -> Result<(), Fault>
         requires { ⌜ sound (now self) ⌝ }
         ensures { λ r. ⌜ Called kind sound setup opened leaves (now (self .entry)) (now (self .exit)) (now (memory .entry)) (now (memory .exit)) (unmap (card .0) direction (device .0) length) (tellsDone r) ⌝ };
 
     // Turns the holder of the mapping that starts at the device address.
-    fn sync(&mut self, memory: &mut [u8], call: Sync, card: Card, device: DeviceAddress) -> Result<(), Fault>
+    fn sync(
+        &mut self,
+        memory: &mut [u8],
+        call: Sync,
+        card: Card,
+        device: DeviceAddress,
+    ) -> Result<(), Fault>
         requires { ⌜ sound (now self) ⌝ }
         ensures { λ r. ⌜ Called kind sound setup opened leaves (now (self .entry)) (now (self .exit)) (now (memory .entry)) (now (memory .exit)) (sync call (card .0) (device .0)) (tellsDone r) ⌝ };
 
@@ -176,7 +189,14 @@ pub trait Mapper {
     }
 
     // What unmap checks: card, direction, memory, and the mapping that it closes.
-    fn closing(&self, memory: &[u8], card: Card, direction: u8, device: DeviceAddress, length: u32) -> Result<Mapping, Fault>
+    fn closing(
+        &self,
+        memory: &[u8],
+        card: Card,
+        direction: u8,
+        device: DeviceAddress,
+        length: u32,
+    ) -> Result<Mapping, Fault>
         requires { ⌜ sound (now self) ⌝ }
         ensures { λ r. ⌜ Names (unmapChecks (here kind setup (now (self .entry)) (now (memory .entry))) (opened (now (self .entry))) (card .0) direction (device .0) length) (find (opened (now (self .entry))) (card .0) (device .0)) r ⌝ }
     {
@@ -200,7 +220,13 @@ pub trait Mapper {
     }
 
     // What a sync checks: card, memory, and the mapping whose holder it turns.
-    fn turning(&self, memory: &[u8], call: Sync, card: Card, device: DeviceAddress) -> Result<Mapping, Fault>
+    fn turning(
+        &self,
+        memory: &[u8],
+        call: Sync,
+        card: Card,
+        device: DeviceAddress,
+    ) -> Result<Mapping, Fault>
         requires { ⌜ sound (now self) ⌝ }
         ensures { λ r. ⌜ Names (syncChecks (here kind setup (now (self .entry)) (now (memory .entry))) (opened (now (self .entry))) call (card .0) (device .0)) (find (opened (now (self .entry))) (card .0) (device .0)) r ⌝ }
     {
@@ -221,7 +247,14 @@ pub trait Mapper {
     }
 
     // What a card's access checks before its reach is judged: card, length, memory, one device page.
-    fn accessing(&self, memory: &[u8], card: Card, device: DeviceAddress, count: usize, room: usize) -> Result<(), Fault>
+    fn accessing(
+        &self,
+        memory: &[u8],
+        card: Card,
+        device: DeviceAddress,
+        count: usize,
+        room: usize,
+    ) -> Result<(), Fault>
         requires { ⌜ sound (now self) ⌝ }
         ensures { λ r. ⌜ ((v : Verdict) → cardChecks (here kind setup (now (self .entry)) (now (memory .entry))) (card .0) (device .0) count room v ≡ passes r v) ⌝ }
     {
@@ -242,7 +275,15 @@ pub trait Mapper {
     }
 
     // The memory address of the bytes that a card's access reaches, once all of its checks let it pass.
-    fn target(&mut self, memory: &[u8], card: Card, device: DeviceAddress, count: usize, room: usize, access: Access) -> Result<usize, Fault>
+    fn target(
+        &mut self,
+        memory: &[u8],
+        card: Card,
+        device: DeviceAddress,
+        count: usize,
+        room: usize,
+        access: Access,
+    ) -> Result<usize, Fault>
         requires { ⌜ sound (now self) ⌝ }
         ensures { λ r. ⌜ Targeted kind sound setup opened leaves (now (self .entry)) (now (self .exit)) (now (memory .entry)) (card .0) (device .0) count room access r ⌝ }
     {
@@ -252,7 +293,14 @@ pub trait Mapper {
     }
 
     // Reads 1 to 64 bytes in one device page for a card.
-    fn card_read(&mut self, memory: &[u8], card: Card, device: DeviceAddress, count: usize, out: &mut [u8]) -> Result<(), Fault>
+    fn card_read(
+        &mut self,
+        memory: &[u8],
+        card: Card,
+        device: DeviceAddress,
+        count: usize,
+        out: &mut [u8],
+    ) -> Result<(), Fault>
         requires { ⌜ sound (now self) ⌝ }
         ensures { λ r. ⌜ Read kind sound setup opened leaves (now (self .entry)) (now (self .exit)) (now (memory .entry)) (now (out .entry)) (now (out .exit)) (cardRead (card .0) (device .0) count (now (out .entry))) (tellsBytes r (now (out .exit))) ⌝ }
     {
@@ -262,11 +310,24 @@ pub trait Mapper {
     }
 
     // Writes 1 to 64 bytes in one device page for a card.
-    fn card_write(&mut self, memory: &mut [u8], card: Card, device: DeviceAddress, bytes: &[u8]) -> Result<(), Fault>
+    fn card_write(
+        &mut self,
+        memory: &mut [u8],
+        card: Card,
+        device: DeviceAddress,
+        bytes: &[u8],
+    ) -> Result<(), Fault>
         requires { ⌜ sound (now self) ⌝ }
         ensures { λ r. ⌜ Called kind sound setup opened leaves (now (self .entry)) (now (self .exit)) (now (memory .entry)) (now (memory .exit)) (cardWrite (card .0) (device .0) (now (bytes .entry))) (tellsDone r) ⌝ }
     {
-        let at = self.target(memory, card, device, bytes.len(), bytes.len(), Access::Write)?;
+        let at = self.target(
+            memory,
+            card,
+            device,
+            bytes.len(),
+            bytes.len(),
+            Access::Write,
+        )?;
         write_bytes(memory, at, bytes);
         Ok(())
     }

@@ -130,9 +130,12 @@ pub pair-turn : (R : Mapping → Mapping → Type 0) (t : Holder) (c v : ℕ) (o
     → ((m n : Mapping) → R m n → R (turned t m) n × R m (turned t n)) → Pairwise R o → Pairwise R (turn t c v o)
 unfolding turn
 pair-turn R t c v [] f p = tt
-pair-turn R t c v (k ∷ o) f p = ((λ n i. let r = in-turn t c v n o i in let h = p .0 (r .was) (r .isOpen) in
+pair-turn R t c v (k ∷ o) f p = (
+  (λ n i. let r = in-turn t c v n o i in let h = p .0 (r .was) (r .isOpen) in
       let g : R k n = elim (r .same) [ inl e ↦ subst (R k) (sym e) h | inr e ↦ subst (R k) (sym e) (f k (r .was) h .1) ] in
-      first (starts c v k) n g), pair-turn R t c v o f (p .1))
+      first (starts c v k) n g),
+  pair-turn R t c v o f (p .1),
+)
   where
     first : (b : Bool) (n : Mapping) → R k n → R (cond b (turned t k) k) n
     first true n g = f k n g .0
@@ -217,6 +220,7 @@ remove-insert-same c v m (x ∷ xs) e h = go (ltb (key m) (key x)) (remove-inser
   where
     keeps : (z : List Mapping) → cond (starts c v x) z (x ∷ z) ≡ x ∷ z
     keeps z = cond-false (starts c v x) z (x ∷ z) (h x (inl refl))
+
     go : (b : Bool) → remove c v (insert m xs) ≡ xs → remove c v (cond b (m ∷ x ∷ xs) (x ∷ insert m xs)) ≡ x ∷ xs
     go true later = cond-true (starts c v m) (remove c v (x ∷ xs)) (m ∷ remove c v (x ∷ xs)) e ∙ remove-none c v (x ∷ xs) h
     go false later = keeps (remove c v (insert m xs)) ∙ ap (λ (z : List Mapping). x ∷ z) later

@@ -39,6 +39,7 @@ module _ (m : Mapping) (own : m .landing ≡ m .buffer .address) (x : Bytes) whe
       nothing : (b : Bool) (q : ℕ) → cond (b && false) 0 (x q) ≡ x q
       nothing true q = refl
       nothing false q = refl
+
       outside : (q : ℕ) → cond (landsOn m (q / 4096) && false) 0 (x q) ≡ x q
       outside q = nothing (landsOn m (q / 4096)) q
 

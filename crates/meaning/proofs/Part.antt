@@ -47,7 +47,6 @@ unfolding part
 part-out a i f x q (inl h) = grind (arith, tells)
 part-out a i f x q (inr h) = grind (arith, tells)
 
-
 pub part-clear : (to n : ℕ) (x : Bytes) → part to n (λ k. 0) x ≡ clear to n x
 unfolding part clear
 part-clear to n x = refl

@@ -6,3 +6,4 @@ pub mod Calls
 pub mod Checks
 pub mod Effects
 pub mod Told
+pub mod Runs

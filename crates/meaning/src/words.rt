@@ -24,7 +24,14 @@ pub fn new_mapping(request: Request, placement: Placement) -> Mapping
         Some(direction) => direction,
         None => Direction::Both,
     };
-    Mapping { card: request.card, direction, buffer: request.buffer, device: placement.device, landing: placement.landing, holder: Holder::ByCard }
+    Mapping {
+        card: request.card,
+        direction,
+        buffer: request.buffer,
+        device: placement.device,
+        landing: placement.landing,
+        holder: Holder::ByCard,
+    }
 }
 
 // The mapping starts at the card's device address.
@@ -48,7 +55,8 @@ pub fn is_held_at(mapping: &Mapping, address: u32) -> bool
     ensures { λ r. ⌜ r ≡ (cardHolds (now (mapping .entry) .holder) && covers (now (mapping .entry)) address) ⌝ }
 {
     match mapping.holder {
-        Holder::ByCard => mapping.buffer.address <= address && (address as u64) < mapping.buffer.end(),
+        Holder::ByCard => mapping.buffer.address <= address
+            && (address as u64) < mapping.buffer.end(),
         Holder::ByCpu => false,
     }
 }
@@ -61,5 +69,8 @@ pub fn reach_by(mapping: &Mapping, card: Card, page: DevicePage) -> Reach
         return Reach::Nothing;
     }
     let ahead = page.0 - mapping.device.0 / 4096;
-    Reach::Reaches(Frame(Frame::of(mapping.landing).0 + ahead as u32), mapping.direction.rights())
+    Reach::Reaches(
+        Frame(Frame::of(mapping.landing).0 + ahead as u32),
+        mapping.direction.rights(),
+    )
 }

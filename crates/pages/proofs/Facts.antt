@@ -55,7 +55,7 @@ fits-test S m f =
     (and-from (eqb (m .landing) (m .buffer .address)) _ (eq-eqb (m .landing) (m .buffer .address) (f .own))
     (and-from (eqb (m .device .0 % 4096) (m .buffer .address % 4096)) _ (eq-eqb (m .device .0 % 4096) (m .buffer .address % 4096) (f .offset))
     (and-from (leb 1 (firstPage m)) (leb (firstPage m + pageCount m) (suc (lastOf S (m .card .0)))) (le-leb 1 (firstPage m) (f .low))
-      (le-leb (firstPage m + pageCount m) (suc (lastOf S (m .card .0))) (f .high))))))))
+    (le-leb (firstPage m + pageCount m) (suc (lastOf S (m .card .0))) (f .high))))))))
 
 -- a common page, and none
 pub share-none : (m n : Mapping) → share m n ≡ false → m .card .0 ≡ n .card .0 → (p : ℕ) → Pages m p → Pages n p → ⊥
@@ -66,8 +66,8 @@ share-none m n e c p a b =
     let b₁ = b .to in
     both-ways (share m n) e
     (and-from (eqb (m .card .0) (n .card .0)) _ (eq-eqb (m .card .0) (n .card .0) c)
-      (and-from (ltb (firstPage m) (firstPage n + pageCount n)) (ltb (firstPage n) (firstPage m + pageCount m))
-        (lt-ltb (firstPage m) (firstPage n + pageCount n) (omega arith)) (lt-ltb (firstPage n) (firstPage m + pageCount m) (omega arith))))
+    (and-from (ltb (firstPage m) (firstPage n + pageCount n)) (ltb (firstPage n) (firstPage m + pageCount m))
+    (lt-ltb (firstPage m) (firstPage n + pageCount n) (omega arith)) (lt-ltb (firstPage n) (firstPage m + pageCount m) (omega arith))))
 
 pub share-test : (m n : Mapping) → 0 < pageCount m → 0 < pageCount n → (m .card .0 ≡ n .card .0 → (p : ℕ) → Pages m p → Pages n p → ⊥) → share m n ≡ false
 share-test m n pm pn h = elim (cases-bool (share m n)) [
@@ -125,7 +125,7 @@ lawful-test S [] l = refl
 lawful-test S (k ∷ o) l =
     and-from (fits S k) (apartFrom k o && lawful S o) (fits-test S k (l .each k (inl refl)))
     (and-from (apartFrom k o) (lawful S o) (apart-test k o (l .apart .0))
-      (lawful-test S o (record { each = λ m i. l .each m (inr i); apart = l .apart .1 })))
+    (lawful-test S o (record { each = λ m i. l .each m (inr i); apart = l .apart .1 })))
 
 fitting-turned : (S : Setup) (h : Holder) (m : Mapping) → Fitting S m → Fitting S (turned h m)
 fitting-turned S h m f = record { card = f .card; some = f .some; short = f .short; inside = f .inside; own = f .own; offset = f .offset; low = f .low; high = f .high }

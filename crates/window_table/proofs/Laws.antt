@@ -47,6 +47,7 @@ takes-pages S o r q e = go (pageFor S o r) refl e
     room : (p : ℕ) (b : Bool) → cond b noWindow (Ok (placedAt r p)) ≡ Ok q → q ≡ placedAt r p
     room p true h = let z : _≡_ {A = ℕ} 0 1 = cc in absurd (omega arith)
     room p false h = cc
+
     go : (f : Option ℕ) → pageFor S o r ≡ f
         → onPageFound f (span (r .buffer .address) (r .buffer .length)) (λ p. cond (leb 8 (length o)) noWindow (Ok (placedAt r p))) ≡ Ok q
         → (p : ℕ) × (pageFor S o r ≡ Some p) × (q ≡ placedAt r p)

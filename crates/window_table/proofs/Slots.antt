@@ -56,6 +56,7 @@ opened-in (x ∷ xs) m i = go (x .mapping) refl i (λ j. opened-in xs m j)
   where
     later-on : Holder-of xs m → Holder-of (x ∷ xs) m
     later-on h = let b = h .below in record { index = suc (h .index); below = omega arith; holds = h .holds }
+
     go : (f : Option Mapping) → x .mapping ≡ f → In m (onFound f (openedOf xs) (λ k. insert k (openedOf xs))) → (In m (openedOf xs) → Holder-of xs m) → Holder-of (x ∷ xs) m
     go None h j later = later-on (later j)
     go (Some k) h j later = elim (in-insert k m (openedOf xs) j) [
@@ -196,7 +197,7 @@ reach-windows c p [] one = refl
 reach-windows c p (x ∷ xs) one = go (x .mapping) one (λ k. reach-windows c p xs k)
   where
     go : (f : Option Mapping) → ((m n : Mapping) → In m (onFound f (openedOf xs) (λ k. insert k (openedOf xs))) → In n (onFound f (openedOf xs) (λ k. insert k (openedOf xs)))
-          → onPage c p m ≡ true → onPage c p n ≡ true → n ≡ m)
+        → onPage c p m ≡ true → onPage c p n ≡ true → n ≡ m)
         → (((m n : Mapping) → In m (openedOf xs) → In n (openedOf xs) → onPage c p m ≡ true → onPage c p n ≡ true → n ≡ m) → reachIn xs c p ≡ reachOf (openedOf xs) c p)
         → cond (onFound f false (onPage c p)) (onFound f Nothing (λ m. cond (onPage c p m) (reachThrough m p) Nothing)) (reachIn xs c p) ≡ reachOf (onFound f (openedOf xs) (λ k. insert k (openedOf xs))) c p
     go None u later = later u

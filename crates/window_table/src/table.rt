@@ -143,7 +143,10 @@ fn pages_in(windows: &[Window], card: Card) -> [Range<DevicePage>; 8]
     requires { ⌜ length (now windows) ≡ 8 ⌝ }
     ensures { λ r. ⌜ r ≡ allPages (card .0) (now (windows .entry)) ⌝ }
 {
-    let mut used = [Range { first: DevicePage(0), count: 0 }; 8];
+    let mut used = [Range {
+        first: DevicePage(0),
+        count: 0,
+    }; 8];
     for i in 0..8 {
         used[i] = windows[i].pages(card);
     }

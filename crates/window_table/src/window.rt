@@ -37,7 +37,14 @@ impl Window {
         ensures { λ _. ⌜ ((m : Opened) → now (self .entry) .mapping ≡ Some m → now (self .exit) ≡ holding (turned holder m)) ⌝ }
     {
         if let Some(m) = self.mapping {
-            self.mapping = Some(Mapping { card: m.card, direction: m.direction, buffer: m.buffer, device: m.device, landing: m.landing, holder });
+            self.mapping = Some(Mapping {
+                card: m.card,
+                direction: m.direction,
+                buffer: m.buffer,
+                device: m.device,
+                landing: m.landing,
+                holder,
+            });
         }
     }
 
@@ -48,12 +55,21 @@ impl Window {
         match self.mapping {
             Some(m) => {
                 if m.card.0 == card.0 {
-                    Range { first: m.device.page(), count: m.buffer.span() }
+                    Range {
+                        first: m.device.page(),
+                        count: m.buffer.span(),
+                    }
                 } else {
-                    Range { first: DevicePage(0), count: 0 }
+                    Range {
+                        first: DevicePage(0),
+                        count: 0,
+                    }
                 }
             }
-            None => Range { first: DevicePage(0), count: 0 },
+            None => Range {
+                first: DevicePage(0),
+                count: 0,
+            },
         }
     }
 

@@ -87,13 +87,26 @@ pub impl Mapper for Windows as WindowsMapper {
         Ok(placement.device)
     }
 
-    fn unmap(&mut self, memory: &mut [u8], card: Card, direction: u8, device: DeviceAddress, length: u32) -> Result<(), Fault> {
+    fn unmap(
+        &mut self,
+        memory: &mut [u8],
+        card: Card,
+        direction: u8,
+        device: DeviceAddress,
+        length: u32,
+    ) -> Result<(), Fault> {
         self.closing(memory, card, direction, device, length)?;
         self.table.close(card, device);
         Ok(())
     }
 
-    fn sync(&mut self, memory: &mut [u8], call: Sync, card: Card, device: DeviceAddress) -> Result<(), Fault> {
+    fn sync(
+        &mut self,
+        memory: &mut [u8],
+        call: Sync,
+        card: Card,
+        device: DeviceAddress,
+    ) -> Result<(), Fault> {
         self.turning(memory, call, card, device)?;
         self.table.turn(card, device, call.holder());
         Ok(())

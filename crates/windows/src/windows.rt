@@ -6,8 +6,6 @@ ghost use Prim.Native.Nat.{ℕ, _<_};
 ghost use Rattle.pages.specs.Lawful.{Ranged, lawful};
 ghost use Rattle.window_table.specs.Choosing.{granted, setupNumber, setupOf, toldBy, windowChoice};
 ghost use Rattle.window_table.specs.Slots.{openedOf};
-use window_table::WindowTable;
-use window_table::Window;
 use chooser::DevicePageNumber;
 use chooser::choose;
 use units::DeviceAddress;
@@ -17,6 +15,8 @@ use units::FaultKind;
 use units::Geometry;
 use units::Placement;
 use units::Request;
+use window_table::Window;
+use window_table::WindowTable;
 
 #[derive(Drop)]
 pub struct Windows {
@@ -33,15 +33,24 @@ impl Windows {
         ensures number { λ r. ⌜ toldBy (r .geometry) ≡ setupNumber geometry ⌝ }
         ensures empty { λ r. ⌜ openedOf (r .table .windows) ≡ [] ⌝ }
     {
-        let table = WindowTable { windows: [Window { mapping: None }; 8] };
-        Windows { geometry: accepted(geometry), table }
+        let table = WindowTable {
+            windows: [Window { mapping: None }; 8],
+        };
+        Windows {
+            geometry: accepted(geometry),
+            table,
+        }
     }
 
     // The number of the set-up: 0, or 16 where a number was out of range.
     pub fn number(&self) -> u8
         ensures { λ r. ⌜ r ≡ toldBy (now (self .entry) .geometry) ⌝ }
     {
-        if self.geometry.cards > 0 { 0 } else { FaultKind::WrongSetup.number() }
+        if self.geometry.cards > 0 {
+            0
+        } else {
+            FaultKind::WrongSetup.number()
+        }
     }
 
     // Where a request of a card would be put: the chooser's pages, and a window.
@@ -57,7 +66,10 @@ impl Windows {
             return Err(FaultKind::NoRecord.at(8));
         }
         let device = DeviceAddress(page.0 * 4096 + request.buffer.address as u64 % 4096);
-        Ok(Placement { device, landing: request.buffer.address })
+        Ok(Placement {
+            device,
+            landing: request.buffer.address,
+        })
     }
 }
 
@@ -68,6 +80,10 @@ fn accepted(geometry: Geometry) -> Geometry
     if geometry.is_in_range() {
         geometry
     } else {
-        Geometry { cards: 0, lasts: geometry.lasts, frames: 0 }
+        Geometry {
+            cards: 0,
+            lasts: geometry.lasts,
+            frames: 0,
+        }
     }
 }

@@ -20,10 +20,11 @@ loop-i-again c =
     let whole = pages-length card ws in
     let here : i < length used = omega arith in
     let there : i < length (allPages card ws) = omega arith in
-    let same : c .pages .result ≡ getD (allPages card ws) i noPages = c .pages .ensures ∙ sym (pages-at card ws i (omega arith)) in
-    (length-set used i (c .pages .result) ∙ eight,
+    let same : c .pages .result ≡ getD (allPages card ws) i noPages = c .pages .ensures ∙ sym (pages-at card ws i (omega arith)) in (
+      length-set used i (c .pages .result) ∙ eight,
       take-more-set used i (c .pages .result) here ∙ ap (λ z. z ++ (c .pages .result ∷ [])) (c .loop-i .inv .1)
-      ∙ ap (λ z. take i (allPages card ws) ++ (z ∷ [])) same ∙ sym (take-more (allPages card ws) i noPages there))
+          ∙ ap (λ z. take i (allPages card ws) ++ (z ∷ [])) same ∙ sym (take-more (allPages card ws) i noPages there),
+    )
 
 pub returns : need.returns
 returns c =

@@ -32,7 +32,7 @@ unfolding verdict
 returns-in-Break-placement c =
     let p = err-from-errBy (c .from-residual-in-Break-placement .result) (c .from-residual-in-Break-placement .ensures .1) in
     rw (p .1, p .2) (refused-call (c .args .self .now) (c .args .memory .now) (map (c .args .request)) (c .in-Break-placement .field-0 .0)
-        (c .in-Continue-admit .ensures tt _ ∙ ap chosen (sym (c .in-Break-placement .ensures tt))))
+    (c .in-Continue-admit .ensures tt _ ∙ ap chosen (sym (c .in-Break-placement .ensures tt))))
 
 pub open-requires : need.open-requires
 open-requires c κs =

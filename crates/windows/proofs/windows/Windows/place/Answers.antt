@@ -41,7 +41,7 @@ returns-in-Break-page c =
     let v = c .in-Break-page .ensures tt .value in
     let e = page-is w r (c .used-pages-used .result) (c .span .result) (c .pre .some) (c .used-pages-used .ensures) (c .span .ensures .value) in
     rw (p .1, p .2) (ap (λ (f : Fault). Err f) (v .1 ∙ ap (λ (n : ℕ). record { kind = Rattle.units.specs.declared.fault.FaultKind.the-variants.NoPages; layer = 0; place = n }) (c .span .ensures .value))
-        ∙ choice-full (setupOf (w .geometry)) (openedOf (w .table .windows)) r (e ∙ v .0))
+    ∙ choice-full (setupOf (w .geometry)) (openedOf (w .table .windows)) r (e ∙ v .0))
 
 pub returns-then-is-full : need.returns-then-is-full
 returns-then-is-full c =

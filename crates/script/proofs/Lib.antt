@@ -1,0 +1,5 @@
+pub mod Encoded
+pub mod Little
+pub mod Places
+pub mod Trailed
+pub mod Turns

@@ -1,0 +1,9 @@
+pub mod Encoding
+pub mod Format
+pub mod Items
+pub mod Laws
+pub mod Numbers
+pub mod Readers
+pub mod Scripts
+pub mod Values
+pub mod Widths
