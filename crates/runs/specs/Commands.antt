@@ -66,3 +66,9 @@ Buffered [] [] = Unit {0}
 Buffered [] (t ∷ k) = ⊥
 Buffered (s ∷ l) [] = ⊥
 Buffered (s ∷ l) (t ∷ k) = (bytesOf (vec-items (t .out)) ≡ bufferAfter (answerOf t) (vec-items (s .out))) × Buffered l k
+
+-- the steps `before` were asked and the steps `past` are what they became, from state s to state t
+pub record Ran (W : World) (s t : State) (before past : List Step) : Type 0 where
+  pub answered : answersOf past ≡ answers W s (callsOf before)
+  pub left : t ≡ final W s (callsOf before)
+  pub buffered : Buffered before past

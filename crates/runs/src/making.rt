@@ -5,10 +5,9 @@ ghost use Prim.Native.Nat.{ℕ};
 ghost use lib.ListN.{length};
 ghost use Rattle.std.specs.Of.Vec.{vec-items};
 ghost use Rattle.meaning.specs.Told.{tellsAt, tellsDone, tellsBytes, tellsReport};
-ghost use Rattle.meaning.specs.Runs.{answers, final};
 ghost use Rattle.mapper.specs.Called.{here};
 ghost use Rattle.engine.specs.Made.{state};
-ghost use Rattle.runs.specs.Commands.{meant, spoken, MadeOne, callOf, answerOf, callsOf, answersOf, Buffered};
+ghost use Rattle.runs.specs.Commands.{meant, spoken, MadeOne, callOf, answerOf, Ran};
 use crate::command::Command;
 use crate::command::Reply;
 use crate::command::Step;
@@ -91,5 +90,27 @@ pub fn make<M: Mapper>(
             bytes,
         } => done(engine.card_write(memory, card, device, bytes)),
         Command::Report { card } => told(engine.report(card)),
+    }
+}
+
+// Makes a step's call with the step's own answer buffer, and notes the reply.
+pub fn take_step<M: Mapper>(engine: &mut Engine<M>, memory: &mut [u8], step: &mut Step<'_>)
+    requires { ⌜ M·Mapper .sound (now engine .mapper) ⌝ }
+    ensures made { λ _. ⌜ MadeOne (M·Mapper .kind) (M·Mapper .sound) (M·Mapper .setup) (M·Mapper .opened) (M·Mapper .leaves) (now (engine .entry) .mapper) (now (engine .exit) .mapper) (now (engine .entry) .reports) (now (engine .exit) .reports) (now (memory .entry)) (now (memory .exit)) (vec-items (now (step .entry) .out)) (vec-items (now (step .exit) .out)) (callOf (now (step .entry))) (answerOf (now (step .exit))) ⌝ }
+    ensures asked { λ _. ⌜ now (step .exit) .command ≡ now (step .entry) .command ⌝ }
+{
+    let reply = make(engine, memory, step.command, step.out.as_mut_slice());
+    step.reply = reply;
+}
+
+// Makes the steps' calls one after the other: answers, answer buffers and all that is left are those of the whole list.
+pub fn run<M: Mapper>(engine: &mut Engine<M>, memory: &mut [u8], steps: &mut [Step<'_>])
+    requires { ⌜ M·Mapper .sound (now engine .mapper) ⌝ }
+    ensures stays { λ _. ⌜ M·Mapper .sound (now (engine .exit) .mapper) ⌝ }
+    ensures fixed { λ _. ⌜ M·Mapper .setup (now (engine .exit) .mapper) ≡ M·Mapper .setup (now (engine .entry) .mapper) ⌝ }
+    ensures ran { λ _. ⌜ Ran (here (M·Mapper .kind) (M·Mapper .setup) (now (engine .entry) .mapper) (now (memory .entry))) (state (M·Mapper .opened (now (engine .entry) .mapper)) (now (memory .entry)) (now (engine .entry) .reports)) (state (M·Mapper .opened (now (engine .exit) .mapper)) (now (memory .exit)) (now (engine .exit) .reports)) (now (steps .entry)) (now (steps .exit)) ⌝ }
+{
+    for i in 0..steps.len() {
+        take_step(engine, memory, &mut steps[i]);
     }
 }
