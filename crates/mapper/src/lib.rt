@@ -9,7 +9,7 @@ ghost use Rattle.units.specs.declared.mapping.Mapping.{Mapping as Opened};
 ghost use Rattle.units.specs.declared.mapping.Reach.{Reach as Reached};
 ghost use Rattle.meaning.specs.Mappings.{find, held, reachOf};
 ghost use Rattle.meaning.specs.Worlds.{Setup, Kind, world};
-ghost use Rattle.meaning.specs.Laws.{DisjointPages, Landings, EmptyRoom, Bounds};
+ghost use Rattle.meaning.specs.Laws.{DisjointPages, Landings, EmptyRoom, ChoiceRefusals, Bounds};
 ghost use Rattle.meaning.specs.Calls.{Call, map, unmap, sync, cardRead, cardWrite};
 ghost use Rattle.meaning.specs.Checks.{Verdict, admitted, unmapChecks, syncChecks, cardChecks, noneReserved, noneHeld};
 ghost use Rattle.meaning.specs.Effects.{answer, opensAfter};
@@ -63,6 +63,9 @@ pub trait Mapper {
     ghost landing: { (S : Setup) (o : List Opened) → possible S o → Landings (kind .reserved S) o };
 
     ghost empty_room: { (S : Setup) (o : List Opened) → possible S o → EmptyRoom kind S };
+
+    // A choice refuses with 9 to 12 only.
+    ghost refusals: { (S : Setup) (o : List Opened) → possible S o → ChoiceRefusals kind S o };
 
     // The bounds of set-up and of each open mapping.
     ghost bounds: { (S : Setup) (o : List Opened) → possible S o → Bounds S (kind .reserved S) o };

@@ -4,8 +4,10 @@ use mathlib.Core.List.{List, []}
 use mathlib.Core.Bool.{Bool, true, false}
 use Prim.Native.Nat.{ℕ, _+_, _*_, _/_, _%_, _^_, _<_, _≤_}
 use Rattle.std.specs.declared.result.Result.the-variants.{Ok, Err}
+use Rattle.units.specs.declared.fault.Fault.{Fault}
 use Rattle.units.specs.declared.mapping.Mapping.{Mapping}
 use Rattle.units.specs.declared.mapping.Request.{Request}
+use Rattle.units.specs.Faults.{isChoiceKind}
 use Rattle.meaning.specs.Mappings.{In, Pairwise, Whole, Holds, Lands, Pages, firstFrame, pageCount}
 use Rattle.meaning.specs.Worlds.{Setup, lastOf, Kind, Choice}
 
@@ -38,6 +40,10 @@ Accepts (Err f) = ⊥
 -- empty room: with nothing open, the choice accepts each whole buffer of one unreserved frame for each card
 abbrev pub EmptyRoom : Kind → Setup → Type 0
 EmptyRoom K S = (r : Request) → OneFrame S (K .reserved S) r → Accepts (K .choice S [] r)
+
+-- a choice that refuses does so with 9 to 12
+abbrev pub ChoiceRefusals : Kind → Setup → List Mapping → Type 0
+ChoiceRefusals K S o = (r : Request) (f : Fault) → K .choice S o r ≡ Err f → isChoiceKind (f .kind) ≡ true
 
 -- the bounds of an open mapping
 pub record Bounded (S : Setup) (reserved : ℕ → Bool) (m : Mapping) : Type 0 where

@@ -2,7 +2,6 @@
 ghost use mathlib.Core.Path.{_≡_};
 ghost use mathlib.Core.List.{List, []};
 ghost use Prim.Native.Nat.{ℕ};
-ghost use Rattle.units.specs.declared.number.DevicePage.{DevicePage as PageOf};
 ghost use Rattle.mapper.specs.Called.{here};
 ghost use Rattle.engine.specs.Made.{blank, reportsOf};
 ghost use Rattle.runs.specs.Commands.{meant, spoken, MadeOne};
@@ -10,7 +9,7 @@ ghost use Rattle.script.specs.Items.{meant as itemOf};
 ghost use Rattle.window_table.specs.Choosing.{setupOf, windowKind};
 ghost use Rattle.window_table.specs.Left.{WindowsLeft};
 ghost use Rattle.window_table.specs.Slots.{openedOf};
-ghost use Rattle.session.specs.Playing.{callFor};
+ghost use Rattle.session.specs.Playing.{callFor, lastPages};
 use engine::Engine;
 use runs::Command;
 use runs::Reply;
@@ -39,7 +38,7 @@ pub fn command_of<'s>(record: Record<'s>) -> Command<'s>
 
 // An engine over bare windows: 2 cards with last page 1,048,575 and 8 frames, nothing open and nothing counted.
 pub fn bare_windows() -> Engine<Windows>
-    ensures numbers { λ r. ⌜ (r .mapper .geometry .cards ≡ 2) × (r .mapper .geometry .frames ≡ 8) ⌝ }
+    ensures numbers { λ r. ⌜ r .mapper .geometry ≡ record { cards = 2; lasts = lastPages; frames = 8 } ⌝ }
     ensures empty { λ r. ⌜ openedOf (r .mapper .table .windows) ≡ [] ⌝ }
     ensures counted { λ r. ⌜ ((c : ℕ) → reportsOf (r .reports) c ≡ blank) ⌝ }
 {

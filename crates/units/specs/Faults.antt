@@ -1,6 +1,7 @@
 -- The refusals: their numbers, which of them are blocks, and how a layer passes one on.
 use Prim.Native.Nat.{ℕ, _+_, _-_, _^_, min}
-use mathlib.Core.Bool.{Bool, true, false}
+use mathlib.Core.Bool.{Bool, true, false, _&&_}
+use lib.Dec.{leb}
 use Rattle.std.specs.declared.result.Result.{Result}
 use Rattle.std.specs.declared.result.Result.the-variants.{Ok, Err}
 use Rattle.units.specs.declared.fault.Fault.{Fault}
@@ -51,6 +52,10 @@ isBlockKind WrongPool = false
 isBlockKind CutShort = false
 isBlockKind UnknownTag = false
 isBlockKind WrongSize = false
+
+-- a choice refuses for want of frames, pages, records or tables, and for nothing else
+abbrev pub isChoiceKind : FaultKind → Bool
+isChoiceKind k = leb 9 (numberOf k) && leb (numberOf k) 12
 
 -- the same fault, one layer further up; the layer number stops at its top
 abbrev pub raised : Fault → Fault

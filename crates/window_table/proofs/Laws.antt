@@ -16,14 +16,14 @@ use Rattle.units.specs.declared.mapping.Placement.{Placement}
 use Rattle.units.specs.declared.mapping.Request.{Request}
 use Rattle.units.specs.declared.number.Geometry.{Geometry}
 use Rattle.units.specs.Buffers.{span}
-use Rattle.units.specs.declared.fault.FaultKind.the-variants.{WrongSetup}
-use Rattle.units.specs.Faults.{numberOf}
+use Rattle.units.specs.declared.fault.FaultKind.the-variants.{NoPages, NoRecord, WrongSetup}
+use Rattle.units.specs.Faults.{isChoiceKind, numberOf}
 use Rattle.units.specs.Geometry.{isLast, lastPage, inRange}
 use Rattle.chooser.specs.Finding.{choice}
 use Rattle.chooser.proofs.Same.{any-order}
 use Rattle.meaning.specs.Mappings.{In, key, onPage, insert, reachOf}
 use Rattle.meaning.specs.Worlds.{Setup, lastOf, Choice, world}
-use Rattle.meaning.specs.Laws.{DisjointPages, Landings, EmptyRoom, Bounds, Accepts, OneFrame}
+use Rattle.meaning.specs.Laws.{DisjointPages, Landings, EmptyRoom, ChoiceRefusals, Bounds, Accepts, OneFrame}
 use Rattle.meaning.specs.Calls.{Call}
 use Rattle.meaning.specs.Effects.{newMapping, opensAfter}
 use Rattle.meaning.proofs.Unique.{one-on-page}
@@ -119,6 +119,15 @@ window-bounds = bounds
 pub window-room : (S : Setup) (o : List Mapping) → Possible S o → EmptyRoom windowKind S
 window-room S o h r f = let e = choice-found S [] r (lastOf S (r .card .0)) (first-page S (noneReserved S) r (h .0) f) in
     subst Accepts e tt
+
+pub window-refusals : (S : Setup) (o : List Mapping) → Possible S o → ChoiceRefusals windowKind S o
+unfolding windowChoice
+window-refusals S o h r f e = go (pageFor S o r) (leb 8 (length o)) e
+  where
+    go : (p : Option ℕ) (b : Bool) → onPageFound p (span (r .buffer .address) (r .buffer .length)) (λ k. cond b noWindow (Ok (placedAt r k))) ≡ Err f → isChoiceKind (f .kind) ≡ true
+    go None b k = let z : f .kind ≡ NoPages = cc in ap isChoiceKind z
+    go (Some p) true k = let z : f .kind ≡ NoRecord = cc in ap isChoiceKind z
+    go (Some p) false k = let z : _≡_ {A = ℕ} 0 1 = cc in absurd (omega arith)
 
 -- Set-up --------------------------------------------------------------------------------------------------
 

@@ -6,7 +6,7 @@ ghost use Rattle.pages.specs.Lawful.{Possible};
 ghost use Rattle.window_table.specs.Choosing.{setupOf, windowKind};
 ghost use Rattle.window_table.specs.Left.{WindowsLeft};
 ghost use Rattle.window_table.specs.Slots.{openedOf, reachIn};
-ghost use Rattle.window_table.proofs.Laws.{window-kept, window-disjoint, window-reach, window-landing, window-room, window-bounds};
+ghost use Rattle.window_table.proofs.Laws.{window-kept, window-disjoint, window-reach, window-landing, window-room, window-refusals, window-bounds};
 use crate::windows::Windows;
 use mapper::Mapper;
 use mapper::judge;
@@ -47,6 +47,8 @@ pub impl Mapper for Windows as WindowsMapper {
     ghost landing = { window-landing };
 
     ghost empty_room = { window-room };
+
+    ghost refusals = { window-refusals };
 
     ghost bounds = { window-bounds };
 
