@@ -29,7 +29,11 @@ mod tests {
     }
 
     fn map(card: u8, direction: u8, address: u32, length: u32) -> Command<'static> {
-        Command::Map(Request { card: Card(card), direction, buffer: Buffer { address, length } })
+        Command::Map(Request {
+            card: Card(card),
+            direction,
+            buffer: Buffer { address, length },
+        })
     }
 
     fn cpu_read(count: usize) -> Command<'static> {
@@ -37,27 +41,63 @@ mod tests {
     }
 
     fn card_read(card: u8, device: u64, count: usize) -> Command<'static> {
-        Command::CardRead { card: Card(card), device: DeviceAddress(device), count }
+        Command::CardRead {
+            card: Card(card),
+            device: DeviceAddress(device),
+            count,
+        }
     }
 
     // One call on an engine with its memory, read into an answer buffer of 64 bytes.
-    fn ask(engine: &mut Engine<Windows>, memory: &mut [u8], command: Command<'_>) -> (u8, u32, u64) {
+    fn ask(
+        engine: &mut Engine<Windows>,
+        memory: &mut [u8],
+        command: Command<'_>,
+    ) -> (u8, u32, u64) {
         let mut out = [0u8; 64];
         told(make(engine, memory, command, &mut out))
     }
 
     fn number_of(cards: u8, last: u64, frames: u32) -> u8 {
         let page = DevicePage(last);
-        let windows = Windows::set_up(Geometry { cards, lasts: [page, page, page, page], frames });
+        let windows = Windows::set_up(Geometry {
+            cards,
+            lasts: [page, page, page, page],
+            frames,
+        });
         windows.number()
     }
 
     #[test]
     fn spans() -> Result<(), Fail> {
-        check_eq(Buffer { address: 4095, length: 2 }.span(), 2)?;
-        check_eq(Buffer { address: 0, length: 32768 }.span(), 8)?;
-        check_eq(Buffer { address: 1, length: 32768 }.span(), 9)?;
-        check_eq(Buffer { address: 4294967295, length: 4294967295 }.span(), 1048577)
+        check_eq(
+            Buffer {
+                address: 4095,
+                length: 2,
+            }.span(),
+            2,
+        )?;
+        check_eq(
+            Buffer {
+                address: 0,
+                length: 32768,
+            }.span(),
+            8,
+        )?;
+        check_eq(
+            Buffer {
+                address: 1,
+                length: 32768,
+            }.span(),
+            9,
+        )?;
+        check_eq(
+            Buffer {
+                address: 4294967295,
+                length: 4294967295,
+            }.span(),
+            1048577,
+        )
     }
 
     #[test]
@@ -75,7 +115,11 @@ mod tests {
     #[test]
     fn after_a_failed_set_up() -> Result<(), Fail> {
         let page = DevicePage(0);
-        let mut engine = Engine::over(Windows::set_up(Geometry { cards: 1, lasts: [page, page, page, page], frames: 1 }));
+        let mut engine = Engine::over(Windows::set_up(Geometry {
+            cards: 1,
+            lasts: [page, page, page, page],
+            frames: 1,
+        }));
         let mut memory = [0u8; 4096];
         check_eq(ask(&mut engine, &mut memory, map(0, 0, 0, 1)), (1, 0, 0))?;
         check_eq(ask(&mut engine, &mut memory, cpu_read(0)), (3, 0, 0))?;
@@ -85,26 +129,45 @@ mod tests {
     #[test]
     fn a_card_with_one_page() -> Result<(), Fail> {
         let page = DevicePage(1);
-        let mut engine = Engine::over(Windows::set_up(Geometry { cards: 2, lasts: [page, page, page, page], frames: 1 }));
+        let mut engine = Engine::over(Windows::set_up(Geometry {
+            cards: 2,
+            lasts: [page, page, page, page],
+            frames: 1,
+        }));
         let mut memory = [0u8; 4096];
-        check_eq(ask(&mut engine, &mut memory, map(0, 0, 0, 4096)), (0, 0, 4096))?;
+        check_eq(
+            ask(&mut engine, &mut memory, map(0, 0, 0, 4096)),
+            (0, 0, 4096),
+        )?;
         check_eq(ask(&mut engine, &mut memory, map(0, 0, 0, 1)), (10, 0, 1))?;
-        check_eq(ask(&mut engine, &mut memory, map(1, 0, 0, 4096)), (0, 0, 4096))
+        check_eq(
+            ask(&mut engine, &mut memory, map(1, 0, 0, 4096)),
+            (0, 0, 4096),
+        )
     }
 
     #[test]
     fn memory_of_another_size() -> Result<(), Fail> {
         let mut engine = bare_windows();
         let mut memory = [0u8; 4096];
-        check_eq(ask(&mut engine, &mut memory, map(0, 0, 0, 1)), (4, 0, 32768))?;
-        check_eq(ask(&mut engine, &mut memory, card_read(0, 4096, 1)), (4, 0, 32768))
+        check_eq(
+            ask(&mut engine, &mut memory, map(0, 0, 0, 1)),
+            (4, 0, 32768),
+        )?;
+        check_eq(
+            ask(&mut engine, &mut memory, card_read(0, 4096, 1)),
+            (4, 0, 32768),
+        )
     }
 
     #[test]
     fn the_latest_block() -> Result<(), Fail> {
         let mut engine = bare_windows();
         let mut memory = [0u8; 32768];
-        check_eq(ask(&mut engine, &mut memory, card_read(1, 0x7010, 4)), (14, 0, 0))?;
+        check_eq(
+            ask(&mut engine, &mut memory, card_read(1, 0x7010, 4)),
+            (14, 0, 0),
+        )?;
         let Ok(report) = engine.report(Card(1)) else {
             return Err(Fail::new("no report"));
         };
@@ -136,7 +199,14 @@ mod tests {
     fn would_changes_nothing() -> Result<(), Fail> {
         let engine = bare_windows();
         let memory = [0u8; 32768];
-        let request = Request { card: Card(0), direction: 0, buffer: Buffer { address: 4095, length: 2 } };
+        let request = Request {
+            card: Card(0),
+            direction: 0,
+            buffer: Buffer {
+                address: 4095,
+                length: 2,
+            },
+        };
         let Ok(device) = engine.mapper.would(&memory, request) else {
             return Err(Fail::new("refused"));
         };

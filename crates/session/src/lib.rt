@@ -26,13 +26,42 @@ pub fn command_of<'s>(record: Record<'s>) -> Command<'s>
 {
     match record {
         Record::Map(request) => Command::Map(request),
-        Record::Unmap { card, direction, device, length } => Command::Unmap { card, direction, device, length },
+        Record::Unmap {
+            card,
+            direction,
+            device,
+            length,
+        } => Command::Unmap {
+            card,
+            direction,
+            device,
+            length,
+        },
         Record::SyncForCpu { card, device } => Command::SyncForCpu { card, device },
         Record::SyncForCard { card, device } => Command::SyncForCard { card, device },
         Record::CpuWrite { address, bytes } => Command::CpuWrite { address, bytes },
-        Record::CpuRead { address, count } => Command::CpuRead { address, count: count as usize },
-        Record::CardWrite { card, device, bytes } => Command::CardWrite { card, device, bytes },
-        Record::CardRead { card, device, count } => Command::CardRead { card, device, count: count as usize },
+        Record::CpuRead { address, count } => Command::CpuRead {
+            address,
+            count: count as usize,
+        },
+        Record::CardWrite {
+            card,
+            device,
+            bytes,
+        } => Command::CardWrite {
+            card,
+            device,
+            bytes,
+        },
+        Record::CardRead {
+            card,
+            device,
+            count,
+        } => Command::CardRead {
+            card,
+            device,
+            count: count as usize,
+        },
     }
 }
 
@@ -43,11 +72,20 @@ pub fn bare_windows() -> Engine<Windows>
     ensures counted { λ r. ⌜ ((c : ℕ) → reportsOf (r .reports) c ≡ blank) ⌝ }
 {
     let last = DevicePage(1_048_575);
-    Engine::over(Windows::set_up(Geometry { cards: 2, lasts: [last, last, last, last], frames: 8 }))
+    Engine::over(Windows::set_up(Geometry {
+        cards: 2,
+        lasts: [last, last, last, last],
+        frames: 8,
+    }))
 }
 
 // Plays one record: answers and leaves what the definition of its call says.
-pub fn play(engine: &mut Engine<Windows>, memory: &mut [u8], record: Record<'_>, out: &mut [u8]) -> Reply
+pub fn play(
+    engine: &mut Engine<Windows>,
+    memory: &mut [u8],
+    record: Record<'_>,
+    out: &mut [u8],
+) -> Reply
     ensures { λ r. ⌜ MadeOne windowKind (λ w. Unit {0}) (λ w. setupOf (w .geometry)) (λ w. openedOf (w .table .windows)) (λ w t v. WindowsLeft (w .table .windows) t (v .table .windows)) (now (engine .entry) .mapper) (now (engine .exit) .mapper) (now (engine .entry) .reports) (now (engine .exit) .reports) (now (memory .entry)) (now (memory .exit)) (now (out .entry)) (now (out .exit)) (callFor (itemOf («record» .entry)) (now (out .entry))) (spoken r (now (out .exit))) ⌝ }
 {
     make(engine, memory, command_of(record), out)

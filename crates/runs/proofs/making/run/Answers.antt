@@ -34,16 +34,19 @@ loop-i-again g c =
     let u = state (M .opened (c .take-step .last .engine .mapper)) (c .take-step .last .memory) (c .take-step .last .engine .reports) in
     let made = c .take-step .ensures .made .made in
     let same : here (M .kind) (M .setup) (c .loop-i .engine .mapper) (c .loop-i .memory) ≡ W =
-          ap (λ n. world (M .kind) (M .setup (c .loop-i .engine .mapper)) n) (c .loop-i .kept .memory) ∙ ap (λ S. world (M .kind) S (length (c .args .memory .now))) (c .loop-i .inv .1) in
+    ap (λ n. world (M .kind) (M .setup (c .loop-i .engine .mapper)) n) (c .loop-i .kept .memory) ∙ ap (λ S. world (M .kind) S (length (c .args .memory .now))) (c .loop-i .inv .1) in
     let more : Ran W s u (take i old ++ (x ∷ [])) (take i now′ ++ (y ∷ [])) =
-          ran-more W s t u (take i old) (take i now′) x y (c .loop-i .inv .3)
-          (subst (λ (V : World). answerOf y ≡ answer V t (callOf x)) same (made .answers))
-          (subst (λ (V : World). u ≡ after V t (callOf x)) same (made .becomes))
-          (c .take-step .ensures .made .buffer) in
+    ran-more W s t u (take i old) (take i now′) x y (c .loop-i .inv .3)
+    (subst (λ (V : World). answerOf y ≡ answer V t (callOf x)) same (made .answers))
+    (subst (λ (V : World). u ≡ after V t (callOf x)) same (made .becomes))
+    (c .take-step .ensures .made .buffer) in
     let before : take (i + 1) old ≡ take i old ++ (x ∷ []) = take-more old i d (c .loop-i-test .taken) ∙ ap (λ (z : Step). take i old ++ (z ∷ [])) (sym (rest .0)) in
-    let past : take (i + 1) (set now′ i y) ≡ take i now′ ++ (y ∷ []) = take-more-set now′ i y here′ in
-    (made .stays, made .fixed ∙ c .loop-i .inv .1, drop-set-lt (i + 1) now′ i y (omega arith) ∙ rest .1,
-      subst (λ (z : List Step). Ran W s u z (take (i + 1) (set now′ i y))) (sym before) (subst (λ (z : List Step). Ran W s u (take i old ++ (x ∷ [])) z) (sym past) more))
+    let past : take (i + 1) (set now′ i y) ≡ take i now′ ++ (y ∷ []) = take-more-set now′ i y here′ in (
+      made .stays,
+      made .fixed ∙ c .loop-i .inv .1,
+      drop-set-lt (i + 1) now′ i y (omega arith) ∙ rest .1,
+      subst (λ (z : List Step). Ran W s u z (take (i + 1) (set now′ i y))) (sym before) (subst (λ (z : List Step). Ran W s u (take i old ++ (x ∷ [])) z) (sym past) more),
+    )
 
 pub returns : need.returns
 returns g c =

@@ -16,8 +16,8 @@ returns g c =
     let full : length t ≡ v .len = omega (arith, c .make-reply .kept .out, c .as-mut-slice .ensures .len) in
     let same : take (v .len) (t ++ drop (length t) (v .items)) ≡ t = refilled-is v t full in
     let made = subst (λ (z : List ℕ). MadeOne (M .kind) (M .sound) (M .setup) (M .opened) (M .leaves) (c .args .engine .now .mapper) (c .make-reply .last .engine .mapper)
-          (c .args .engine .now .reports) (c .make-reply .last .engine .reports) (c .args .memory .now) (c .make-reply .last .memory) z t
-          (meant (c .args .step .now .command) z) (spoken (c .make-reply .result) t)) (c .as-mut-slice .ensures .value) (c .make-reply .ensures) in
+    (c .args .engine .now .reports) (c .make-reply .last .engine .reports) (c .args .memory .now) (c .make-reply .last .memory) z t
+    (meant (c .args .step .now .command) z) (spoken (c .make-reply .result) t)) (c .as-mut-slice .ensures .value) (c .make-reply .ensures) in
     record {
       made = subst (λ (z : List ℕ). MadeOne (M .kind) (M .sound) (M .setup) (M .opened) (M .leaves) (c .args .engine .now .mapper) (c .make-reply .last .engine .mapper)
           (c .args .engine .now .reports) (c .make-reply .last .engine .reports) (c .args .memory .now) (c .make-reply .last .memory) (vec-items v) z
