@@ -7,7 +7,7 @@ use Prim.Native.Nat.{ℕ, zero, suc, _+_, _*_, _/_, _%_, _^_, _<_, _≤_}
 use native.Mathlib.Omega.{arith}
 use lib.Dec.{leb, ltb}
 use lib.ListN.{length}
-use Rattle.std.proofs.shelf.Tests.{and-parts, leb-true, leb-false, ltb-true, lt-ltb, cases-bool, cond-true}
+use Rattle.std.proofs.shelf.Tests.{and-parts, leb-true, leb-false, ltb-true, lt-ltb, cases-bool, cond-true, cond-false}
 use Rattle.std.specs.declared.option.Option.{Option}
 use Rattle.std.specs.declared.option.Option.the-variants.{Some, None}
 use Rattle.std.specs.declared.result.Result.the-variants.{Ok, Err}
@@ -20,6 +20,7 @@ use Rattle.units.specs.declared.fault.FaultKind.the-variants.{NoPages, NoRecord
 use Rattle.units.specs.Faults.{isChoiceKind, numberOf}
 use Rattle.units.specs.Geometry.{isLast, lastPage, inRange}
 use Rattle.chooser.specs.Finding.{choice}
+use Rattle.chooser.proofs.Answer.{choice-none, choice-some}
 use Rattle.chooser.proofs.Same.{any-order}
 use Rattle.meaning.specs.Mappings.{In, key, onPage, insert, reachOf}
 use Rattle.meaning.specs.Worlds.{Setup, lastOf, Choice, world}
@@ -34,7 +35,7 @@ use Rattle.pages.proofs.Laws.{disjoint, landed, bounds, kept}
 use Rattle.pages.proofs.Facts.{lawful-uninsert, key-apart}
 use Rattle.pages.proofs.Taking.{first-page, grown}
 use Rattle.window_table.specs.declared.window.Window.{Window}
-use Rattle.window_table.specs.Choosing.{setupOf, granted, setupNumber, toldBy, noPagesFor, noWindow, onPageFound, windowChoice, windowKind}
+use Rattle.window_table.specs.Choosing.{setupOf, granted, setupNumber, toldBy, noPagesFor, noWindow, onPageFound, windowChoice, windowKind, Chooses}
 use Rattle.window_table.specs.Slots.{openedOf, reachIn, allPages}
 use Rattle.window_table.proofs.Slots.{reach-windows, pages-same, pages-back}
 
@@ -71,6 +72,19 @@ pub choice-found : (S : Setup) (o : List Mapping) (r : Request) (p : ℕ) → pa
     → cond (leb 8 (length o)) noWindow (Ok (placedAt r p)) ≡ windowChoice S o r
 unfolding windowChoice
 choice-found S o r p e = sym (ap (λ (z : Option ℕ). onPageFound z (span (r .buffer .address) (r .buffer .length)) (λ p. cond (leb 8 (length o)) noWindow (Ok (placedAt r p)))) e)
+
+-- the choice in words
+pub choice-words : (S : Setup) (o : List Mapping) (r : Request) → 0 < r .buffer .length → Chooses S o r (windowChoice S o r)
+choice-words S o r some = go (pageFor S o r) refl
+  where
+    pos : 0 < span (r .buffer .address) (r .buffer .length)
+    pos = omega arith
+    go : (f : Option ℕ) → pageFor S o r ≡ f → Chooses S o r (windowChoice S o r)
+    go None e = inl (choice-none pageNumber 1 (lastOf S (r .card .0)) (usedPages o (r .card .0)) (span (r .buffer .address) (r .buffer .length)) pos e, sym (choice-full S o r e))
+    go (Some q) e = inr (q, choice-some pageNumber 1 (lastOf S (r .card .0)) (usedPages o (r .card .0)) (span (r .buffer .address) (r .buffer .length)) q pos e, (elim (cases-bool (leb 8 (length o))) [
+      | inl t ↦ inl (leb-true 8 (length o) t, sym (choice-found S o r q e) ∙ cond-true (leb 8 (length o)) noWindow (Ok (placedAt r q)) t)
+      | inr f ↦ inr (leb-false 8 (length o) f, sym (choice-found S o r q e) ∙ cond-false (leb 8 (length o)) noWindow (Ok (placedAt r q)) f)
+    ]))
 
 -- an accepted request finds a window
 pub choice-room : (S : Setup) (o : List Mapping) (r : Request) (q : Placement) → windowChoice S o r ≡ Ok q → length o < 8

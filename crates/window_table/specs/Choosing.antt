@@ -2,7 +2,8 @@
 use mathlib.Core.Path.{_≡_}
 use mathlib.Core.List.{List, []}
 use mathlib.Core.Bool.{Bool, true, false, cond}
-use Prim.Native.Nat.{ℕ}
+use mathlib.Core.Logic.{_⊎_}
+use Prim.Native.Nat.{ℕ, _<_, _≤_}
 use lib.Dec.{leb, ltb}
 use lib.ListN.{length}
 use Rattle.std.specs.declared.option.Option.{Option}
@@ -15,9 +16,10 @@ use Rattle.units.specs.declared.number.Geometry.{Geometry}
 use Rattle.units.specs.Buffers.{span}
 use Rattle.units.specs.Faults.{numberOf}
 use Rattle.units.specs.Geometry.{inRange}
-use Rattle.meaning.specs.Worlds.{Setup, Kind, Choice}
+use Rattle.chooser.specs.Gaps.{Chosen, No-room}
+use Rattle.meaning.specs.Worlds.{Setup, lastOf, Kind, Choice}
 use Rattle.pages.specs.Lawful.{noneReserved}
-use Rattle.pages.specs.Pages.{pageFor, placedAt}
+use Rattle.pages.specs.Pages.{pageNumber, usedPages, pageFor, placedAt}
 
 abbrev pub setupOf : Geometry → Setup
 setupOf g = record { cards = g .cards; lasts = g .lasts; frames = g .frames; fixed = [] }
@@ -49,6 +51,19 @@ onPageFound (Some p) n f = f p
 -- pages by the chooser, and then a window
 unfoldable pub windowChoice : Setup → List Mapping → Request → Choice
 windowChoice S o r = onPageFound (pageFor S o r) (span (r .buffer .address) (r .buffer .length)) (λ p. cond (leb 8 (length o)) noWindow (Ok (placedAt r p)))
+
+-- the highest n free pages of the best gap begin at q
+abbrev pub BestPages : Setup → List Mapping → Request → ℕ → Type 0
+BestPages S o r q = Chosen pageNumber 1 (lastOf S (r .card .0)) (usedPages o (r .card .0)) (span (r .buffer .address) (r .buffer .length)) q
+
+-- no gap of the card's device pages holds the span
+abbrev pub NoPagesLeft : Setup → List Mapping → Request → Type 0
+NoPagesLeft S o r = No-room pageNumber 1 (lastOf S (r .card .0)) (usedPages o (r .card .0)) (span (r .buffer .address) (r .buffer .length))
+
+-- 10 exactly when no gap holds the span, else 11 exactly when all 8 windows are in use, else the best gap's pages
+abbrev pub Chooses : Setup → List Mapping → Request → Choice → Type 0
+Chooses S o r k = (NoPagesLeft S o r × (k ≡ noPagesFor (span (r .buffer .address) (r .buffer .length))))
+    ⊎ ((q : ℕ) × BestPages S o r q × (((8 ≤ length o) × (k ≡ noWindow)) ⊎ ((length o < 8) × (k ≡ Ok (placedAt r q)))))
 
 -- no frame is reserved, and blocks have level 0
 abbrev pub windowKind : Kind

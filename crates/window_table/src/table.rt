@@ -88,11 +88,9 @@ impl WindowTable {
         }
     }
 
-    // A free window takes the mapping.
+    // A free window takes the mapping, if there is one.
     pub fn open(&mut self, mapping: Mapping)
-        requires room { ⌜ length (openedOf (now self .windows)) < 8 ⌝ }
-        requires apart { ⌜ ((n : Opened) → In n (openedOf (now self .windows)) → key n ≡ key mapping → ⊥) ⌝ }
-        ensures opens { λ _. ⌜ openedOf (now (self .exit) .windows) ≡ insert mapping (openedOf (now (self .entry) .windows)) ⌝ }
+        ensures opens { λ _. ⌜ (length (openedOf (now (self .entry) .windows)) < 8 → ((n : Opened) → In n (openedOf (now (self .entry) .windows)) → key n ≡ key mapping → ⊥) → openedOf (now (self .exit) .windows) ≡ insert mapping (openedOf (now (self .entry) .windows))) ⌝ }
         ensures one { λ _. ⌜ OneChanged (now (self .entry) .windows) (now (self .exit) .windows) ⌝ }
     {
         if let Some(i) = first(&self.windows, &IsFree) {

@@ -15,12 +15,13 @@ use Rattle.units.specs.declared.mapping.Request.{Request}
 use Rattle.units.specs.declared.mapping.Sync.{Sync}
 use Rattle.units.specs.Holders.{holderAfter}
 use Rattle.meaning.specs.Memory.{Bytes, bytesOf}
-use Rattle.meaning.specs.Mappings.{find, insert, remove, turn}
+use Rattle.meaning.specs.Mappings.{In, key, find, insert, remove, turn}
 use Rattle.meaning.specs.Worlds.{World, Setup, Choice, world}
 use Rattle.meaning.specs.Calls.{Call, map, unmap, sync, Answer, fails, done, at}
 use Rattle.meaning.specs.Checks.{Verdict, fine, errs, chosen, admitted, unmapChecks, syncChecks, verdict}
 use Rattle.meaning.specs.Effects.{answer, answered, said, newMapping, onFound, onChoice, copyIn, copyAtUnmap, copyAtSync}
 use Rattle.meaning.proofs.Lists.{find-is-in}
+use Rattle.meaning.proofs.Verdicts.{admitted-facts}
 use Rattle.meaning.proofs.Own.{own-in, own-unmap, own-sync}
 use Rattle.mapper.specs.Tasks.{Task, opens, closes, turns}
 use Rattle.mapper.specs.Called.{here, seen, Called}
@@ -30,6 +31,7 @@ use Rattle.pages.proofs.Facts.{lawful-facts}
 use Rattle.window_table.specs.Choosing.{setupOf, windowChoice, windowKind}
 use Rattle.window_table.specs.Left.{WindowsLeft}
 use Rattle.window_table.specs.Slots.{openedOf}
+use Rattle.window_table.proofs.Laws.{choice-room, choice-lawful, choice-new}
 use Rattle.windows.specs.declared.windows.Windows.{Windows}
 
 abbrev pub soundOf : Windows → Type 0
@@ -96,3 +98,15 @@ module _ (w : Windows) (x : List ℕ) (r : Request) where
       → at (p .device .0) ≡ answer (here windowKind setupIn w x) (seen (openIn w) x) (map r)
   unfolding verdict
   would-place p e h = sym (ap said-so (e _ ∙ ap chosen h) ∙ ap (λ (z : Choice). onChoice z done (λ k. at (k .device .0))) h)
+
+-- Map -----------------------------------------------------------------------------------------------------
+
+module _ (w : Windows) (x : List ℕ) (r : Request) (p : Placement) (e : (k : Verdict) → admitted (here windowKind setupIn w x) r k ≡ k) (f : windowChoice (setupIn w) (openIn w) r ≡ Ok p) where
+  pub still-lawful : lawful (setupIn w) (insert (newMapping r p) (openIn w)) ≡ true
+  still-lawful = choice-lawful (setupIn w) (length x) (openIn w) r p (admitted-facts (here windowKind setupIn w x) r fine (e fine)) f (w .kept)
+
+  -- what the table holds once a free window took the mapping
+  pub one-more : (m : Mapping) (o : List Mapping) → m ≡ newMapping r p → (length (openIn w) < 8 → ((n : Mapping) → In n (openIn w) → key n ≡ key m → ⊥) → o ≡ insert m (openIn w)) → o ≡ insert (newMapping r p) (openIn w)
+  one-more m o same h =
+      h (choice-room (setupIn w) (openIn w) r p f) (choice-new (setupIn w) (openIn w) m (w .ranged) (subst (λ (z : Mapping). lawful (setupIn w) (insert z (openIn w)) ≡ true) (sym same) still-lawful))
+      ∙ ap (λ (z : Mapping). insert z (openIn w)) same

@@ -3,8 +3,10 @@ ghost use mathlib.Core.Path.{_≡_};
 ghost use mathlib.Core.Bool.{Bool, true};
 ghost use mathlib.Core.List.{List, []};
 ghost use Prim.Native.Nat.{ℕ, _<_};
+ghost use Rattle.units.specs.declared.mapping.Mapping.{Mapping as Opened};
+ghost use Rattle.units.specs.declared.mapping.Request.{Request as RequestOf};
 ghost use Rattle.pages.specs.Lawful.{Ranged, lawful};
-ghost use Rattle.window_table.specs.Choosing.{granted, setupNumber, setupOf, toldBy, windowChoice};
+ghost use Rattle.window_table.specs.Choosing.{granted, setupNumber, setupOf, toldBy, windowChoice, Chooses};
 ghost use Rattle.window_table.specs.Slots.{openedOf};
 use chooser::DevicePageNumber;
 use chooser::choose;
@@ -27,11 +29,12 @@ pub struct Windows {
 }
 
 impl Windows {
-    // Windows with nothing open; where a number is out of range, with no cards and no frames.
+    // Windows with nothing open; where a number is out of range, with no cards and no frames. `choosing` tells how requests will be placed.
     pub fn set_up(geometry: Geometry) -> Windows
         ensures numbers { λ r. ⌜ r .geometry ≡ granted geometry ⌝ }
         ensures number { λ r. ⌜ toldBy (r .geometry) ≡ setupNumber geometry ⌝ }
         ensures empty { λ r. ⌜ openedOf (r .table .windows) ≡ [] ⌝ }
+        ensures choosing { λ r. ⌜ ((o : List Opened) (q : RequestOf) → 0 < q .buffer .length → Chooses (setupOf (r .geometry)) o q (windowChoice (setupOf (r .geometry)) o q)) ⌝ }
     {
         let table = WindowTable {
             windows: [Window { mapping: None }; 8],
@@ -54,7 +57,7 @@ impl Windows {
     }
 
     // Where a request of a card would be put: the chooser's pages, and a window.
-    pub fn place(&self, request: Request) -> Result<Placement, Fault>
+    pub(crate) fn place(&self, request: Request) -> Result<Placement, Fault>
         requires card { ⌜ request .card .0 < now self .geometry .cards ⌝ }
         requires some { ⌜ 0 < request .buffer .length ⌝ }
         ensures { λ r. ⌜ r ≡ windowChoice (setupOf (now (self .entry) .geometry)) (openedOf (now (self .entry) .table .windows)) request ⌝ }

@@ -1,17 +1,9 @@
-use mathlib.Core.Path.{_≡_, refl, sym, ap, subst, _∙_}
-use mathlib.Core.Bool.{true}
-use native.Mathlib.Omega.{arith}
-use lib.ListN.{length}
+use mathlib.Core.Path.{_≡_, sym}
 use Rattle.std.proofs.shelf.Results.{err-from-errBy}
-use Rattle.units.specs.declared.mapping.Mapping.{Mapping}
-use Rattle.meaning.specs.Calls.{map}
-use Rattle.meaning.specs.Checks.{fine, verdict, chosen}
-use Rattle.meaning.specs.Worlds.{Choice, world}
-use Rattle.meaning.proofs.Verdicts.{Admitted, admitted-facts}
+use Rattle.meaning.specs.Checks.{fine}
+use Rattle.meaning.proofs.Verdicts.{admitted-facts}
 use Rattle.mapper.specs.Called.{here}
-use Rattle.pages.specs.Lawful.{lawful}
-use Rattle.window_table.specs.Choosing.{setupOf, windowChoice, windowKind}
-use Rattle.window_table.specs.Slots.{openedOf}
+use Rattle.window_table.specs.Choosing.{windowKind}
 use Rattle.windows.proofs.Calls.{setupIn, would-refuse, would-fail, would-place}
 use Rattle.windows.proofs.mapping.WindowsMapper.would.Needs as need
 
