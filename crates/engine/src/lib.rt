@@ -2,7 +2,7 @@
 ghost use mathlib.Core.Path.{_≡_};
 ghost use mathlib.Core.Bool.{Bool, true, false};
 ghost use mathlib.Core.List.{List};
-ghost use Prim.Native.Nat.{ℕ, _+_, _*_, _<_, _≤_};
+ghost use Prim.Native.Nat.{ℕ, _+_, _-_, _*_, _^_, _<_, _≤_, min};
 ghost use lib.ListN.{length, getD};
 ghost use Rattle.units.specs.declared.mapping.Sync.the-variants.{ForCpu, ForCard};
 ghost use Rattle.units.specs.Faults.{isBlockKind};
@@ -31,19 +31,27 @@ pub struct Engine<M: Mapper> {
     pub reports: [Report; 4],
 }
 
-// A block adds one to its card's count, which stops at its top, and becomes the card's latest; no other fault does.
+// One more, up to 4,294,967,295, where a count stops.
+fn one_more(count: u32) -> u32
+    ensures { λ r. ⌜ r ≡ min (count + 1) (2 ^ 32 - 1) ⌝ }
+{
+    if count < u32::MAX { count + 1 } else { count }
+}
+
+// A block adds one to its card's count and becomes the card's latest; no other fault does.
 fn note(reports: &mut [Report], card: Card, device: DeviceAddress, fault: Fault)
     requires { ⌜ (isBlockKind (fault .kind) ≡ true → card .0 < length (now reports)) ⌝ }
     ensures { λ _. ⌜ reportsOf (now (reports .exit)) ≡ noted (card .0) (device .0) (errs fault) (reportsOf (now (reports .entry))) ⌝ }
 {
     if fault.kind.is_block() {
-        let count = reports[card.0 as usize].count.saturating_add(1);
+        let at = card.0 as usize;
+        let count = one_more(reports[at].count);
         let latest = Some(Block {
             device,
             kind: fault.kind,
             level: fault.place,
         });
-        reports[card.0 as usize] = Report { count, latest };
+        reports[at] = Report { count, latest };
     }
 }
 

@@ -79,12 +79,17 @@ choice-words S o r some = go (pageFor S o r) refl
   where
     pos : 0 < span (r .buffer .address) (r .buffer .length)
     pos = omega arith
+
     go : (f : Option ℕ) → pageFor S o r ≡ f → Chooses S o r (windowChoice S o r)
     go None e = inl (choice-none pageNumber 1 (lastOf S (r .card .0)) (usedPages o (r .card .0)) (span (r .buffer .address) (r .buffer .length)) pos e, sym (choice-full S o r e))
-    go (Some q) e = inr (q, choice-some pageNumber 1 (lastOf S (r .card .0)) (usedPages o (r .card .0)) (span (r .buffer .address) (r .buffer .length)) q pos e, (elim (cases-bool (leb 8 (length o))) [
-      | inl t ↦ inl (leb-true 8 (length o) t, sym (choice-found S o r q e) ∙ cond-true (leb 8 (length o)) noWindow (Ok (placedAt r q)) t)
-      | inr f ↦ inr (leb-false 8 (length o) f, sym (choice-found S o r q e) ∙ cond-false (leb 8 (length o)) noWindow (Ok (placedAt r q)) f)
-    ]))
+    go (Some q) e = inr (
+      q,
+      choice-some pageNumber 1 (lastOf S (r .card .0)) (usedPages o (r .card .0)) (span (r .buffer .address) (r .buffer .length)) q pos e,
+      (elim (cases-bool (leb 8 (length o))) [
+        | inl t ↦ inl (leb-true 8 (length o) t, sym (choice-found S o r q e) ∙ cond-true (leb 8 (length o)) noWindow (Ok (placedAt r q)) t)
+        | inr f ↦ inr (leb-false 8 (length o) f, sym (choice-found S o r q e) ∙ cond-false (leb 8 (length o)) noWindow (Ok (placedAt r q)) f)
+      ]),
+    )
 
 -- an accepted request finds a window
 pub choice-room : (S : Setup) (o : List Mapping) (r : Request) (q : Placement) → windowChoice S o r ≡ Ok q → length o < 8
