@@ -15,16 +15,20 @@ module _ (k : FaultKind) (such : ℕ → Bool) where
   unfolding noneOf
   none a = refl
 
-  pub passed : (a n i : ℕ) → i < n → such (a + i) ≡ false → noneOf k such (a + i) (n - i) ≡ noneOf k such (a + (i + 1)) (n - (i + 1))
-  passed a n i l e =
+  -- from a on as from a + i on: the loop has passed i numbers
+  abbrev pub Past : ℕ → ℕ → ℕ → Type 0
+  Past a n i = noneOf k such a n ≡ noneOf k such (a + i) (n - i)
+
+  pub passed : (a n i : ℕ) → Past a n i → i < n → such (a + i) ≡ false → Past a n (i + 1)
+  passed a n i h l e =
       let p : n - i ≡ suc (n - (i + 1)) = omega arith in
       let q : suc (a + i) ≡ a + (i + 1) = omega arith in
       let s = step (a + i) (n - (i + 1)) false e in cc
 
-  pub here : (a n i : ℕ) → i < n → such (a + i) ≡ true → noneOf k such (a + i) (n - i) ≡ fault k (a + i)
-  here a n i l e =
+  pub here : (a n i : ℕ) → Past a n i → i < n → such (a + i) ≡ true → fault k (a + i) ≡ noneOf k such a n
+  here a n i h l e =
       let p : n - i ≡ suc (n - (i + 1)) = omega arith in
       let s = step (a + i) (n - (i + 1)) true e in cc
 
-  pub nowhere : (a n i : ℕ) → n ≤ i → noneOf k such (a + i) (n - i) ≡ fine
-  nowhere a n i l = let p : n - i ≡ 0 = omega arith in let s = none (a + i) in cc
+  pub nowhere : (a n i : ℕ) → Past a n i → n ≤ i → fine ≡ noneOf k such a n
+  nowhere a n i h l = let p : n - i ≡ 0 = omega arith in let s = none (a + i) in cc
