@@ -27,14 +27,6 @@ use Rattle.engine.specs.Made.{blank, reportsOf, state, Made, MadeRead}
 
 -- Reports -------------------------------------------------------------------------------------------------
 
-pub four-blank : (c : ℕ) → reportsOf (blank ∷ blank ∷ blank ∷ blank ∷ []) c ≡ blank
-unfolding reportsOf
-four-blank zero = refl
-four-blank (suc zero) = refl
-four-blank (suc (suc zero)) = refl
-four-blank (suc (suc (suc zero))) = refl
-four-blank (suc (suc (suc (suc c)))) = refl
-
 card-first : (W : World) (c : ℕ) (v : Verdict) → W .cards ≤ c → (isCard W c then v) ≡ fault NoCard c
 card-first W c v h = let z : ltb c (W .cards) ≡ false = le-ltb c (W .cards) h in ap (λ (b : Bool). cond b fine (fault NoCard c) then v) z
 

@@ -1,7 +1,7 @@
 -- What a call on the engine answers and leaves.
 use Prim.Native.Nat.{ℕ}
 use mathlib.Core.Path.{_≡_}
-use mathlib.Core.List.{List, []}
+use mathlib.Core.List.{List, [], _∷_}
 use lib.ListN.{getD}
 use Rattle.std.specs.declared.option.Option.the-variants.{None}
 use Rattle.units.specs.declared.mapping.Mapping.{Mapping}
@@ -16,6 +16,10 @@ use Rattle.mapper.specs.Called.{here}
 -- nothing counted, no latest block
 abbrev pub blank : Report
 blank = record { count = 0; latest = None }
+
+-- a new engine's reports
+abbrev pub noReports : List Report
+noReports = blank ∷ blank ∷ blank ∷ blank ∷ []
 
 unfoldable pub reportsOf : List Report → ℕ → Report
 reportsOf l c = getD l c blank

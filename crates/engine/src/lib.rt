@@ -11,7 +11,7 @@ ghost use Rattle.meaning.specs.Checks.{cpuChecks, errs, fine};
 ghost use Rattle.meaning.specs.Effects.{answer, noted};
 ghost use Rattle.meaning.specs.Told.{tellsAt, tellsDone, tellsBytes, tellsReport, passes};
 ghost use Rattle.mapper.specs.Called.{here};
-ghost use Rattle.engine.specs.Made.{blank, reportsOf, state, Made, MadeRead};
+ghost use Rattle.engine.specs.Made.{noReports, reportsOf, state, Made, MadeRead};
 use mapper::Mapper;
 use meaning::read_bytes;
 use meaning::write_bytes;
@@ -59,7 +59,7 @@ impl<M: Mapper> Engine<M> {
     // An engine over a mapper, with nothing counted.
     pub fn over(mapper: M) -> Engine<M>
         ensures mapper { λ r. ⌜ r .mapper ≡ mapper ⌝ }
-        ensures counted { λ r. ⌜ ((c : ℕ) → reportsOf (r .reports) c ≡ blank) ⌝ }
+        ensures counted { λ r. ⌜ r .reports ≡ noReports ⌝ }
     {
         Engine {
             mapper,

@@ -3,7 +3,7 @@ ghost use mathlib.Core.Path.{_≡_};
 ghost use mathlib.Core.List.{List, []};
 ghost use Prim.Native.Nat.{ℕ};
 ghost use Rattle.mapper.specs.Called.{here};
-ghost use Rattle.engine.specs.Made.{blank, reportsOf};
+ghost use Rattle.engine.specs.Made.{noReports};
 ghost use Rattle.runs.specs.Commands.{meant, spoken, MadeOne};
 ghost use Rattle.script.specs.Items.{meant as itemOf};
 ghost use Rattle.window_table.specs.Choosing.{setupOf, windowKind};
@@ -69,7 +69,7 @@ pub fn command_of<'s>(record: Record<'s>) -> Command<'s>
 pub fn bare_windows() -> Engine<Windows>
     ensures numbers { λ r. ⌜ r .mapper .geometry ≡ record { cards = 2; lasts = lastPages; frames = 8 } ⌝ }
     ensures empty { λ r. ⌜ openedOf (r .mapper .table .windows) ≡ [] ⌝ }
-    ensures counted { λ r. ⌜ ((c : ℕ) → reportsOf (r .reports) c ≡ blank) ⌝ }
+    ensures counted { λ r. ⌜ r .reports ≡ noReports ⌝ }
 {
     let last = DevicePage(1_048_575);
     Engine::over(Windows::set_up(Geometry {
