@@ -1,4 +1,6 @@
 // Worked examples over bare windows, with values worked out by hand.
+#![tactic(auto)]
+
 #[cfg(test)]
 mod tests {
     use engine::Engine;

@@ -1,4 +1,6 @@
 // The chooser: where n numbers go among numbers of which some are in use.
+#![tactic(auto)]
+
 mod choice;
 mod finding;
 mod gap;

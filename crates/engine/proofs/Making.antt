@@ -1,8 +1,7 @@
 -- A call on the engine, put together from its checks and what it did.
-use Rattle.std.proofs.Common.{◌≡◌, ℕ, zero, suc, ◌+◌, ◌-◌, ◌*◌, ◌/◌, ◌%◌, ◌^◌, ◌<◌, ◌≤◌, min, Bool, true, false, cond, ◌&&◌, ◌||◌, eqb, ltb, leb, ◌≢◌, ◌⊎◌, List, [], ◌∷◌, length, get_or, set, Some, None, sym, refl, ap, ◌∙◌, subst, inl, inr, arith, get_or-set_other, get_or-set_same}
+use Rattle.std.proofs.Common.{◌≡◌, ℕ, ◌+◌, ◌-◌, ◌^◌, ◌<◌, ◌≤◌, min, Bool, true, false, cond, ◌&&◌, eqb, ltb, List, length, get_or, set, Some, sym, refl, ap, ◌∙◌, subst, inl, inr, arith, get_or-set_other, get_or-set_same}
 use mathlib.Core.Path.{fun_ext}
-use Rattle.std.proofs.lemmas.Bool.{cases_lt, cases_eq, cases_Bool, le-ltb, ltb-true, cond-true, cond-false, and_from, and_parts, eq-eqb, ne_eqb}
-use Rattle.std.proofs.lemmas.Bool.Decides.{nat_tests as ways}
+use Rattle.std.proofs.lemmas.Bool.{cases_lt, cases_eq, le-ltb, cond-true, cond-false, and_from, eq-eqb, ne_eqb}
 use Rattle.units.specs.declared.fault.Fault.{Fault}
 use Rattle.units.specs.declared.fault.FaultKind.TheVariants.{NoCard}
 use Rattle.units.specs.declared.mapping.Mapping.{Mapping}
@@ -10,12 +9,12 @@ use Rattle.units.specs.declared.report.Report.{Report}
 use Rattle.units.specs.Faults.{is_block_kind}
 use Rattle.meaning.specs.Memory.{Bytes, bytes_of, read_into, paste}
 use Rattle.meaning.specs.Worlds.{World, Kind, Setup}
-use Rattle.meaning.specs.Calls.{Call, cpu_read, cpu_write, card_read, card_write, Answer, fails, done, bytes}
+use Rattle.meaning.specs.Calls.{cpu_read, cpu_write, card_read, card_write, fails, done, bytes}
 use Rattle.meaning.specs.Checks.{Verdict, fine, errs, ◌then◌, is_card, fault, verdict, cpu_checks, card_checks}
 use Rattle.meaning.specs.Effects.{State, answer, answered, noted}
 use Rattle.mapper.specs.Tasks.{Task}
 use Rattle.mapper.specs.Called.{here}
-use Rattle.engine.specs.Made.{blank, reports_of, state, Made, MadeRead}
+use Rattle.engine.specs.Made.{blank, reports_of, Made, MadeRead}
 
 -- Reports -------------------------------------------------------------------------------------------------
 

@@ -1,4 +1,6 @@
 // The engine: any mapper, the CPU's accesses, and what was blocked.
+#![tactic(auto)]
+
 ghost use Rattle.std.specs.Prelude.{◌≡◌, ℕ, ◌+◌, ◌-◌, ◌*◌, ◌^◌, ◌<◌, ◌≤◌, min, Bool, true, false, List, length};
 ghost use Rattle.units.specs.declared.mapping.Sync.TheVariants.{ForCpu, ForCard};
 ghost use Rattle.units.specs.Faults.{is_block_kind};
@@ -60,8 +62,8 @@ impl<M: Mapper> Engine<M> {
 
     // Opens a mapping for a card, and answers its device address.
     pub fn map(&mut self, memory: &mut [u8], request: Request) -> Result<DeviceAddress, Fault>
-        requires { sound self.old.mapper }
-        ensures { Made kind sound setup opened leaves self.old.mapper self.new.mapper self.old.reports self.new.reports memory.old memory.new (map request) (tells_at result) }
+        requires { M.sound self.old.mapper }
+        ensures { Made M.kind M.sound M.setup M.opened M.leaves self.old.mapper self.new.mapper self.old.reports self.new.reports memory.old memory.new (map request) (tells_at result) }
     {
         self.mapper.map(memory, request)
     }
@@ -75,8 +77,8 @@ impl<M: Mapper> Engine<M> {
         device: DeviceAddress,
         length: u32,
     ) -> Result<(), Fault>
-        requires { sound self.old.mapper }
-        ensures { Made kind sound setup opened leaves self.old.mapper self.new.mapper self.old.reports self.new.reports memory.old memory.new (unmap card.0 direction device.0 length) (tells_done result) }
+        requires { M.sound self.old.mapper }
+        ensures { Made M.kind M.sound M.setup M.opened M.leaves self.old.mapper self.new.mapper self.old.reports self.new.reports memory.old memory.new (unmap card.0 direction device.0 length) (tells_done result) }
     {
         self.mapper.unmap(memory, card, direction, device, length)
     }
@@ -88,8 +90,8 @@ impl<M: Mapper> Engine<M> {
         card: Card,
         device: DeviceAddress,
     ) -> Result<(), Fault>
-        requires { sound self.old.mapper }
-        ensures { Made kind sound setup opened leaves self.old.mapper self.new.mapper self.old.reports self.new.reports memory.old memory.new (sync ForCpu card.0 device.0) (tells_done result) }
+        requires { M.sound self.old.mapper }
+        ensures { Made M.kind M.sound M.setup M.opened M.leaves self.old.mapper self.new.mapper self.old.reports self.new.reports memory.old memory.new (sync ForCpu card.0 device.0) (tells_done result) }
     {
         self.mapper.sync(memory, Sync::ForCpu, card, device)
     }
@@ -101,8 +103,8 @@ impl<M: Mapper> Engine<M> {
         card: Card,
         device: DeviceAddress,
     ) -> Result<(), Fault>
-        requires { sound self.old.mapper }
-        ensures { Made kind sound setup opened leaves self.old.mapper self.new.mapper self.old.reports self.new.reports memory.old memory.new (sync ForCard card.0 device.0) (tells_done result) }
+        requires { M.sound self.old.mapper }
+        ensures { Made M.kind M.sound M.setup M.opened M.leaves self.old.mapper self.new.mapper self.old.reports self.new.reports memory.old memory.new (sync ForCard card.0 device.0) (tells_done result) }
     {
         self.mapper.sync(memory, Sync::ForCard, card, device)
     }
@@ -116,8 +118,8 @@ impl<M: Mapper> Engine<M> {
         count: usize,
         out: &mut [u8],
     ) -> Result<(), Fault>
-        requires { sound self.old.mapper }
-        ensures { MadeRead kind sound setup opened leaves self.old.mapper self.new.mapper self.old.reports self.new.reports memory.now out.old out.new (card_read card.0 device.0 count out.old) (tells_bytes result out.new) }
+        requires { M.sound self.old.mapper }
+        ensures { MadeRead M.kind M.sound M.setup M.opened M.leaves self.old.mapper self.new.mapper self.old.reports self.new.reports memory.now out.old out.new (card_read card.0 device.0 count out.old) (tells_bytes result out.new) }
     {
         let answer = self.mapper.card_read(memory, card, device, count, out);
         if let Err(fault) = answer {
@@ -134,8 +136,8 @@ impl<M: Mapper> Engine<M> {
         device: DeviceAddress,
         bytes: &[u8],
     ) -> Result<(), Fault>
-        requires { sound self.old.mapper }
-        ensures { Made kind sound setup opened leaves self.old.mapper self.new.mapper self.old.reports self.new.reports memory.old memory.new (card_write card.0 device.0 bytes.now) (tells_done result) }
+        requires { M.sound self.old.mapper }
+        ensures { Made M.kind M.sound M.setup M.opened M.leaves self.old.mapper self.new.mapper self.old.reports self.new.reports memory.old memory.new (card_write card.0 device.0 bytes.now) (tells_done result) }
     {
         let answer = self.mapper.card_write(memory, card, device, bytes);
         if let Err(fault) = answer {
@@ -146,8 +148,8 @@ impl<M: Mapper> Engine<M> {
 
     // What an access of the CPU checks: length, memory, reserved frames, buffers that a card holds.
     fn reaches(&self, memory: &[u8], address: u32, count: usize, room: usize) -> Result<(), Fault>
-        requires { sound self.now.mapper }
-        ensures { cpu_checks (here kind setup self.now.mapper memory.now) (opened self.now.mapper) address count room ≡ passes result fine }
+        requires { M.sound self.now.mapper }
+        ensures { cpu_checks (here M.kind M.setup self.now.mapper memory.now) (M.opened self.now.mapper) address count room ≡ passes result fine }
     {
         if count == 0 || count > 64 || count > room {
             return Err(FaultKind::WrongLength.at(count as u64));
@@ -180,8 +182,8 @@ impl<M: Mapper> Engine<M> {
         count: usize,
         out: &mut [u8],
     ) -> Result<(), Fault>
-        requires { sound self.now.mapper }
-        ensures { MadeRead kind sound setup opened leaves self.now.mapper self.now.mapper self.now.reports self.now.reports memory.now out.old out.new (cpu_read address count out.old) (tells_bytes result out.new) }
+        requires { M.sound self.now.mapper }
+        ensures { MadeRead M.kind M.sound M.setup M.opened M.leaves self.now.mapper self.now.mapper self.now.reports self.now.reports memory.now out.old out.new (cpu_read address count out.old) (tells_bytes result out.new) }
     {
         self.reaches(memory, address, count, out.len())?;
         read_bytes(memory, address as usize, count, out);
@@ -190,8 +192,8 @@ impl<M: Mapper> Engine<M> {
 
     // Writes 1 to 64 bytes for the CPU.
     pub fn cpu_write(&self, memory: &mut [u8], address: u32, bytes: &[u8]) -> Result<(), Fault>
-        requires { sound self.now.mapper }
-        ensures { Made kind sound setup opened leaves self.now.mapper self.now.mapper self.now.reports self.now.reports memory.old memory.new (cpu_write address bytes.now) (tells_done result) }
+        requires { M.sound self.now.mapper }
+        ensures { Made M.kind M.sound M.setup M.opened M.leaves self.now.mapper self.now.mapper self.now.reports self.now.reports memory.old memory.new (cpu_write address bytes.now) (tells_done result) }
     {
         self.reaches(memory, address, bytes.len(), bytes.len())?;
         write_bytes(memory, address as usize, bytes);
@@ -200,8 +202,8 @@ impl<M: Mapper> Engine<M> {
 
     // How often a card was blocked, and its latest block.
     pub fn report(&self, card: Card) -> Result<Report, Fault>
-        requires { sound self.now.mapper }
-        ensures { (x : List ℕ) → tells_report result ≡ answer (here kind setup self.now.mapper x) (state (opened self.now.mapper) x self.now.reports) (report card.0) }
+        requires { M.sound self.now.mapper }
+        ensures { (x : List ℕ) → tells_report result ≡ answer (here M.kind M.setup self.now.mapper x) (state (M.opened self.now.mapper) x self.now.reports) (report card.0) }
     {
         if card.0 >= self.mapper.cards() {
             return Err(FaultKind::NoCard.at(card.0 as u64));

@@ -1,20 +1,19 @@
 -- A call on any mapper, put together from its checks and what it did.
-use Rattle.std.proofs.Common.{◌≡◌, ℕ, ◌+◌, ◌*◌, ◌/◌, ◌%◌, ◌<◌, ◌≤◌, Bool, true, false, cond, List, length, Some, None, Ok, Err, Option, sym, refl, ap, ◌∙◌, subst, arith}
+use Rattle.std.proofs.Common.{◌≡◌, ℕ, ◌+◌, ◌*◌, ◌/◌, ◌%◌, ◌<◌, Bool, List, length, Some, None, Ok, Err, Option, sym, refl, ap, ◌∙◌, subst, arith}
 use Rattle.units.specs.declared.direction.Access.{Access}
 use Rattle.units.specs.declared.direction.Access.TheVariants.{Read, Write}
-use Rattle.units.specs.declared.direction.Rights.{Rights}
 use Rattle.units.specs.declared.fault.Fault.{Fault}
 use Rattle.units.specs.declared.mapping.Mapping.{Mapping}
 use Rattle.units.specs.declared.mapping.Reach.{Reach}
 use Rattle.units.specs.declared.mapping.Reach.TheVariants.{Nothing, Reaches}
 use Rattle.units.specs.declared.number.Frame.{Frame}
-use Rattle.meaning.specs.Memory.{Bytes, bytes_of, read_into, paste}
+use Rattle.meaning.specs.Memory.{bytes_of, read_into, paste}
 use Rattle.meaning.specs.Mappings.{reach_of}
-use Rattle.meaning.specs.Worlds.{World, Setup, Kind}
+use Rattle.meaning.specs.Worlds.{Setup, Kind}
 use Rattle.meaning.specs.Laws.{Bounds}
 use Rattle.meaning.specs.Calls.{Call, card_read, card_write, Answer, fails, done, bytes}
-use Rattle.meaning.specs.Checks.{Verdict, fine, errs, allowed, card_checks, verdict}
-use Rattle.meaning.specs.Effects.{answered, on_fine, accepted, moved, said, reached_byte}
+use Rattle.meaning.specs.Checks.{Verdict, fine, errs, card_checks, verdict}
+use Rattle.meaning.specs.Effects.{answered, on_fine, accepted, moved, said}
 use Rattle.meaning.proofs.Reaching.{reached_inside}
 use Rattle.meaning.proofs.Verdicts.{card_access}
 use Rattle.mapper.specs.Tasks.{Task, task_of, Left}

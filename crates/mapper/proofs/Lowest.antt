@@ -1,7 +1,7 @@
 -- Steps of a check that looks for the lowest number that is such.
-use Rattle.std.proofs.Common.{◌≡◌, ℕ, zero, suc, ◌+◌, ◌-◌, ◌<◌, ◌≤◌, Bool, true, false, cond, refl, ap, arith}
+use Rattle.std.proofs.Common.{◌≡◌, ℕ, suc, ◌+◌, ◌-◌, ◌<◌, ◌≤◌, Bool, true, false, cond, refl, ap, arith}
 use Rattle.units.specs.declared.fault.FaultKind.{FaultKind}
-use Rattle.meaning.specs.Checks.{Verdict, fine, fault, none_of}
+use Rattle.meaning.specs.Checks.{fine, fault, none_of}
 
 module _ (k : FaultKind) (such : ℕ → Bool) where
   step : (a n : ℕ) (b : Bool) → such a ≡ b → none_of k such a (suc n) ≡ cond b (fault k a) (none_of k such (suc a) n)

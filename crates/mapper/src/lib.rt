@@ -1,4 +1,6 @@
 // The mapper: its meaning, its laws, and the calls, with the checks that every mapper shares.
+#![tactic(auto)]
+
 ghost use Rattle.std.specs.Prelude.{◌≡◌, ℕ, ◌+◌, ◌*◌, ◌/◌, ◌%◌, ◌^◌, ◌<◌, ◌≤◌, Bool, true, false, List, [], length};
 ghost use Rattle.units.specs.declared.mapping.Mapping.{Mapping as Opened};
 ghost use Rattle.units.specs.declared.mapping.Reach.{Reach as Reached};

@@ -1,9 +1,9 @@
 -- The words for a mapping, as tests and as facts.
-use Rattle.std.proofs.Common.{◌≡◌, ℕ, ◌+◌, ◌/◌, ◌<◌, ◌≤◌, Bool, true, false, ◌&&◌, eqb, ltb, leb, arith}
+use Rattle.std.proofs.Common.{◌≡◌, ℕ, ◌+◌, ◌<◌, ◌≤◌, true, eqb, ltb, leb}
 use Rattle.std.proofs.lemmas.Bool.{and_parts, and_from, leb-true, ltb-true, le-leb, lt-ltb, eqb-true, eq-eqb}
 use Rattle.units.specs.declared.mapping.Mapping.{Mapping}
 use Rattle.meaning.specs.Memory.{within}
-use Rattle.meaning.specs.Mappings.{on_page, covers, lands_on, first_page, page_count, Pages, Holds}
+use Rattle.meaning.specs.Mappings.{on_page, first_page, page_count, Pages}
 
 pub within_true : (a n q : ℕ) → within a n q ≡ true → (a ≤ q) × (q < a + n)
 within_true a n q e = let h = and_parts (leb a q) (ltb q (a + n)) e in (leb-true a q h.0, ltb-true q (a + n) h.1)

@@ -1,5 +1,5 @@
 -- A buffer that lands at its own address: the copies change nothing.
-use Rattle.std.proofs.Common.{◌≡◌, ℕ, ◌+◌, ◌-◌, ◌/◌, ◌≤◌, Bool, true, false, cond, ◌&&◌, sym, refl, ap, ◌∙◌, inl, inr, arith}
+use Rattle.std.proofs.Common.{◌≡◌, ℕ, ◌+◌, ◌-◌, ◌/◌, Bool, true, false, cond, ◌&&◌, sym, refl, ap, ◌∙◌, inl, inr, arith}
 use mathlib.Core.Path.{fun_ext}
 use Rattle.std.proofs.lemmas.Bool.{cases_Bool, cond-true, cond-false}
 use Rattle.units.specs.declared.mapping.Mapping.{Mapping}
@@ -8,7 +8,7 @@ use Rattle.units.specs.declared.mapping.Sync.TheVariants.{ForCpu, ForCard}
 use Rattle.units.specs.Directions.{rights_of}
 use Rattle.meaning.specs.Memory.{Bytes, within, copy}
 use Rattle.meaning.specs.Mappings.{lands_on}
-use Rattle.meaning.specs.Effects.{copy_in, copy_back, copy_again, copy_at_unmap, copy_at_sync}
+use Rattle.meaning.specs.Effects.{copy_in, copy_back, copy_at_unmap, copy_at_sync}
 use Rattle.meaning.proofs.Facts.{within_true}
 
 same_byte : (a b n : ℕ) (x : Bytes) (q : ℕ) → a ≡ b → cond (within b n q) (x (a + (q - b))) (x q) ≡ x q

@@ -1,13 +1,12 @@
 -- What a card reaches, it reaches through an open mapping.
-use Rattle.std.proofs.Common.{◌≡◌, ℕ, ◌+◌, ◌-◌, ◌*◌, ◌/◌, ◌<◌, ◌≤◌, Bool, true, false, cond, ◌&&◌, List, [], ◌∷◌, sym, refl, ap, ◌∙◌, subst, inl, inr, arith}
+use Rattle.std.proofs.Common.{◌≡◌, ℕ, ◌+◌, ◌-◌, ◌<◌, Bool, true, false, cond, List, [], ◌∷◌, refl, inl, inr, arith}
 use Rattle.units.specs.declared.direction.Rights.{Rights}
 use Rattle.units.specs.declared.mapping.Mapping.{Mapping}
-use Rattle.units.specs.declared.mapping.Reach.{Reach}
-use Rattle.units.specs.declared.mapping.Reach.TheVariants.{Nothing, Reaches}
+use Rattle.units.specs.declared.mapping.Reach.TheVariants.{Reaches}
 use Rattle.units.specs.declared.number.Frame.{Frame}
-use Rattle.meaning.specs.Mappings.{In, reach_of, reach_through, on_page, first_page, first_frame, page_count}
+use Rattle.meaning.specs.Mappings.{In, reach_of, reach_through, on_page, first_page, first_frame}
 use Rattle.meaning.specs.Worlds.{Setup}
-use Rattle.meaning.specs.Laws.{Bounds, Bounded}
+use Rattle.meaning.specs.Laws.{Bounds}
 use Rattle.meaning.proofs.Facts.{page_fact}
 
 -- an open mapping by which the frame is reached

@@ -1,10 +1,10 @@
 -- By disjoint pages, what lies on a page or starts at a device address is one mapping.
-use Rattle.std.proofs.Common.{◌≡◌, ℕ, ◌+◌, ◌/◌, ◌%◌, ◌<◌, ◌≤◌, Bool, true, false, eqb, ◌⊎◌, List, [], ◌∷◌, sym, refl, ap, ◌∙◌, subst, inl, inr, arith}
+use Rattle.std.proofs.Common.{◌≡◌, ℕ, ◌+◌, ◌/◌, ◌<◌, ◌≤◌, true, eqb, List, sym, ap, ◌∙◌, inl, inr, arith}
 use Rattle.std.proofs.lemmas.Bool.{and_parts, eqb-true}
 use Rattle.units.specs.declared.mapping.Mapping.{Mapping}
 use Rattle.meaning.specs.Mappings.{In, Pages, on_page, starts, first_page, page_count}
 use Rattle.meaning.specs.Worlds.{Setup}
-use Rattle.meaning.specs.Laws.{DisjointPages, Bounds}
+use Rattle.meaning.specs.Laws.{DisjointPages}
 use Rattle.meaning.proofs.Facts.{page_fact, page_test}
 use Rattle.meaning.proofs.Lists.{pairwise_in}
 

@@ -1,5 +1,5 @@
 -- What each call checks, in order: the first error, with its kind, layer and place. No byte of memory and no report counts.
-use Rattle.std.specs.Prelude.{ℕ, zero, suc, ◌+◌, ◌*◌, ◌/◌, ◌%◌, ◌^◌, Bool, true, false, cond, ◌&&◌, List, [], ◌∷◌, length, is_some, Some, None, Ok, Err, Option, ◌==◌, nat_le, nat_lt}
+use Rattle.std.specs.Prelude.{ℕ, zero, suc, ◌+◌, ◌*◌, ◌/◌, ◌%◌, ◌^◌, Bool, cond, ◌&&◌, List, length, is_some, Some, None, Ok, Err, Option, ◌==◌, nat_le, nat_lt}
 use Rattle.units.specs.declared.direction.Access.{Access}
 use Rattle.units.specs.declared.direction.Access.TheVariants.{Read, Write}
 use Rattle.units.specs.declared.fault.Fault.{Fault}

@@ -1,9 +1,7 @@
 -- What each call answers, and what it leaves of open mappings, memory, reports and answer buffer.
-use Rattle.std.specs.Prelude.{ℕ, ◌+◌, ◌-◌, ◌*◌, ◌/◌, ◌%◌, ◌^◌, min, Bool, true, false, cond, ◌&&◌, List, [], ◌∷◌, length, Some, None, Ok, Err, Option, ◌==◌}
+use Rattle.std.specs.Prelude.{ℕ, ◌+◌, ◌-◌, ◌*◌, ◌/◌, ◌%◌, ◌^◌, min, Bool, cond, ◌&&◌, List, Some, None, Ok, Err, Option, ◌==◌}
 use Rattle.units.specs.declared.direction.Direction.{Direction}
-use Rattle.units.specs.declared.direction.Direction.TheVariants.{Both, ToCard, FromCard}
-use Rattle.units.specs.declared.fault.Fault.{Fault}
-use Rattle.units.specs.declared.mapping.Holder.{Holder}
+use Rattle.units.specs.declared.direction.Direction.TheVariants.{Both}
 use Rattle.units.specs.declared.mapping.Holder.TheVariants.{ByCard}
 use Rattle.units.specs.declared.mapping.Mapping.{Mapping}
 use Rattle.units.specs.declared.mapping.Placement.{Placement}

@@ -1,4 +1,6 @@
 // What a mapper is to all above it, what each call answers and leaves (specs/), and the moves of bytes in code.
+#![tactic(auto)]
+
 mod moves;
 mod words;
 

@@ -1,17 +1,16 @@
 -- The laws of a mapper that takes the chooser's pages and lands each buffer at its own address.
-use Rattle.std.proofs.Common.{◌≡◌, ℕ, suc, ◌+◌, ◌*◌, ◌/◌, ◌%◌, ◌<◌, ◌≤◌, Bool, true, false, List, [], ◌∷◌, sym, refl, ap, ◌∙◌, subst, arith}
+use Rattle.std.proofs.Common.{◌≡◌, ℕ, ◌%◌, true, false, List, sym, refl, ap, subst, arith}
 use Rattle.units.specs.declared.mapping.Mapping.{Mapping}
 use Rattle.units.specs.declared.mapping.Placement.{Placement}
-use Rattle.units.specs.declared.mapping.Request.{Request}
-use Rattle.meaning.specs.Mappings.{In, Pairwise, Pages, Lands, insert}
-use Rattle.meaning.specs.Worlds.{Setup, last_of, Kind, world}
+use Rattle.meaning.specs.Mappings.{Pages, Lands, insert}
+use Rattle.meaning.specs.Worlds.{Setup, Kind, world}
 use Rattle.meaning.specs.Laws.{DisjointPages, Landings, Bounds, Bounded}
 use Rattle.meaning.specs.Calls.{Call}
 use Rattle.meaning.specs.Effects.{new_mapping, opens_after}
 use Rattle.meaning.proofs.Lists.{pair_map}
 use Rattle.meaning.proofs.Keeping.{Stable, opens_kept}
-use Rattle.pages.specs.Pages.{TakesPages, placed_at}
-use Rattle.pages.specs.Lawful.{share, lawful, Ranged, Possible, none_reserved}
+use Rattle.pages.specs.Pages.{TakesPages}
+use Rattle.pages.specs.Lawful.{share, lawful, Possible, none_reserved}
 use Rattle.pages.proofs.Facts.{Fitting, lawful_facts, share_none, lawful_remove, lawful_turn}
 use Rattle.pages.proofs.Taking.{grown}
 

@@ -1,5 +1,5 @@
 -- Pages that the chooser gives are free, so that what is opened on them is lawful.
-use Rattle.std.proofs.Common.{◌≡◌, ℕ, suc, ◌+◌, ◌-◌, ◌*◌, ◌/◌, ◌%◌, ◌<◌, ◌≤◌, Bool, true, false, cond, eqb, ◌⊎◌, List, [], ◌∷◌, Some, None, sym, refl, ap, ◌∙◌, subst, inl, inr, arith}
+use Rattle.std.proofs.Common.{◌≡◌, ℕ, suc, ◌+◌, ◌-◌, ◌<◌, ◌≤◌, Bool, true, false, cond, eqb, ◌⊎◌, List, [], ◌∷◌, Some, sym, refl, ap, ◌∙◌, subst, inl, inr, arith}
 use Rattle.std.proofs.lemmas.Bool.{eqb-true, eqb-false}
 use Rattle.units.specs.declared.mapping.Mapping.{Mapping}
 use Rattle.units.specs.declared.mapping.Request.{Request}
@@ -12,7 +12,7 @@ use Rattle.meaning.specs.Laws.{OneFrame}
 use Rattle.meaning.specs.Effects.{new_mapping}
 use Rattle.meaning.proofs.Verdicts.{Admitted}
 use Rattle.pages.specs.Pages.{page_number, pages_of, used_pages, page_for, placed_at}
-use Rattle.pages.specs.Lawful.{lawful, share, Ranged}
+use Rattle.pages.specs.Lawful.{lawful, Ranged}
 use Rattle.pages.proofs.Facts.{Fitting, lawful_facts, lawful_insert, share_test}
 
 -- a page that no range of the card holds is on no mapping of the card, and the other way round

@@ -1,4 +1,6 @@
 // Reads a script from standard input, plays it over bare windows, and prints each answer and each card's blocks.
+#![tactic(auto)]
+
 use engine::Engine;
 use runs::Reply;
 use script::{Reader, Record};

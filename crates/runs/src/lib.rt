@@ -1,4 +1,6 @@
 // Lists of calls: each call as a value, and a run of them one after the other.
+#![tactic(auto)]
+
 mod command;
 mod making;
 

@@ -1,5 +1,5 @@
 -- Reading a record where it is whole, and how far it goes.
-use Rattle.std.proofs.Common.{◌≡◌, ℕ, ◌+◌, ◌<◌, ◌≤◌, ltb, leb, List, length, Some, None, Ok, Err, Option, ap, ◌∙◌, arith}
+use Rattle.std.proofs.Common.{◌≡◌, ℕ, ◌+◌, ◌<◌, ◌≤◌, ltb, leb, List, length, Some, Ok, Err, Option, ap, ◌∙◌, arith}
 use Rattle.std.proofs.lemmas.Bool.{cond-true, cond-false, cond_both, le-leb, lt-leb, le-ltb, ltb-false}
 use Rattle.script.specs.Format.{Parsed, end, refused, found, placed, end_at, standing, item_at}
 use Rattle.script.specs.Values.{Reading}

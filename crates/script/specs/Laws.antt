@@ -3,7 +3,7 @@ use Rattle.std.specs.Prelude.{◌≡◌, ℕ, ◌*◌, ◌≤◌, List, length, 
 use Rattle.std.specs.List.{AllByRecursion as All}
 use Rattle.script.specs.Items.{Item}
 use Rattle.script.specs.Format.{item_at}
-use Rattle.script.specs.Scripts.{Script, go_on, read_from, read_all}
+use Rattle.script.specs.Scripts.{go_on, read_from, read_all}
 use Rattle.script.specs.Encoding.{encode}
 use Rattle.script.specs.Widths.{Fitting}
 

@@ -1,5 +1,5 @@
 -- What a record's value says, by its tag.
-use Rattle.std.specs.Prelude.{ℕ, ◌+◌, Bool, cond, ◌&&◌, List, length, drop, Ok, Err, Result, ◌==◌, nat_le, slice_index}
+use Rattle.std.specs.Prelude.{ℕ, ◌+◌, cond, ◌&&◌, List, length, drop, Ok, Err, Result, ◌==◌, nat_le, slice_index}
 use Rattle.units.specs.declared.fault.FaultKind.{FaultKind}
 use Rattle.units.specs.declared.fault.FaultKind.TheVariants.{UnknownTag, WrongSize}
 use Rattle.units.specs.declared.number.Card.{Card}

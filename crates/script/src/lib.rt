@@ -1,4 +1,6 @@
 // Reads a script: the records of calls that a run makes, one after another.
+#![tactic(auto)]
+
 mod field;
 mod laws;
 mod reader;

@@ -1,4 +1,6 @@
 // A script's records played over an engine with windows.
+#![tactic(auto)]
+
 ghost use Rattle.std.specs.Prelude.{◌≡◌, List, [], ℕ};
 ghost use Rattle.mapper.specs.Called.{here};
 ghost use Rattle.engine.specs.Made.{no_reports};

@@ -1,6 +1,5 @@
 -- The numbers of a set-up that are accepted.
 use Rattle.std.specs.Prelude.{ℕ, ◌^◌, Bool, not, ◌&&◌, ◌||◌, nat_le, nat_lt, slice_index_or}
-use Rattle.units.specs.declared.number.DevicePage.{DevicePage}
 use Rattle.units.specs.declared.number.Geometry.{Geometry}
 
 -- a last page from 1 to 2^36 - 1, where there is such a card

@@ -1,4 +1,6 @@
 // The words of the product: numbers of frames, pages and cards, directions, buffers, open mappings, reports and faults.
+#![tactic(auto)]
+
 mod buffer;
 mod direction;
 mod fault;

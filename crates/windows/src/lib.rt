@@ -1,4 +1,6 @@
 // The window mapper: 8 windows for all cards, each with one open mapping.
+#![tactic(auto)]
+
 mod mapping;
 mod windows;
 

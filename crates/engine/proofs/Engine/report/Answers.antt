@@ -1,4 +1,4 @@
-use Rattle.std.proofs.Common.{◌≤◌, arith, rules}
+use Rattle.std.proofs.Common.{◌≤◌, rules}
 use Rattle.meaning.specs.Checks.{verdict}
 use Rattle.engine.specs.Made.{reports_of}
 use Rattle.engine.proofs.Engine.report.Goals as goal

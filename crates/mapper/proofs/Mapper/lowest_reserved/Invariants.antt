@@ -1,5 +1,4 @@
 use Rattle.std.proofs.Common.{◌≡◌, ◌+◌, ◌-◌}
-use Rattle.meaning.specs.Mappings.{held}
 use Rattle.meaning.specs.Checks.{none_of}
 use Rattle.units.specs.declared.fault.FaultKind.TheVariants.{ReservedFrame}
 use Rattle.mapper.proofs.Mapper.lowest_reserved.Given as goal

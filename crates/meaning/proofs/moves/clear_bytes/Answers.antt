@@ -1,4 +1,4 @@
-use Rattle.std.proofs.Common.{◌≡◌, length, get_or, refl, ap, ◌∙◌, arith}
+use Rattle.std.proofs.Common.{◌≡◌, refl, ap, ◌∙◌, arith}
 use Rattle.meaning.specs.Memory.{bytes_of}
 use Rattle.meaning.proofs.Part.{part, part_none, part_more, part_clear}
 use Rattle.meaning.proofs.moves.clear_bytes.Goals as goal

@@ -1,4 +1,4 @@
-use Rattle.std.proofs.Common.{◌≡◌, ℕ, ◌+◌, ◌<◌, ◌≤◌, ◌⊎◌, length, get_or, refl, ap, ◌∙◌, inl, inr, arith}
+use Rattle.std.proofs.Common.{◌≡◌, ◌+◌, ◌<◌, ◌≤◌, ◌⊎◌, get_or, ap, ◌∙◌, inl, inr, arith}
 use Rattle.meaning.specs.Memory.{Bytes}
 use Rattle.meaning.specs.Memory.{bytes_of}
 use Rattle.meaning.proofs.Part.{part, part_none, part_more, part_copy, part_out}

@@ -1,4 +1,4 @@
-use Rattle.std.proofs.Common.{◌≡◌, ℕ, ◌+◌, length, get_or, refl, ap, ◌∙◌, arith}
+use Rattle.std.proofs.Common.{◌≡◌, ◌+◌, refl, ap, ◌∙◌, arith}
 use Rattle.meaning.specs.Memory.{bytes_of}
 use Rattle.meaning.proofs.Part.{part, part_none, part_more_0, part_read}
 use Rattle.meaning.proofs.moves.read_bytes.Goals as goal

@@ -20,21 +20,21 @@ loop-i-preserved g c =
     let now' = c.loop-i.steps in
     let d = c.index-steps-i.result in
     let x = get_or now' i d in
-    let y = c.take-step.new.step in
+    let y = c.take_step.new.step in
     let here' : i < length now' = omega (arith, c.loop-i.auto.steps) in
     let rest = same_rest now' old i d here' c.loop-i-test.true c.loop-i.invariant.2 in
     let W = here M.kind M.setup c.args.engine.now.mapper c.args.memory.now in
     let s = state (M.opened c.args.engine.now.mapper) c.args.memory.now c.args.engine.now.reports in
     let t = state (M.opened c.loop-i.engine.mapper) c.loop-i.memory c.loop-i.engine.reports in
-    let u = state (M.opened c.take-step.new.engine.mapper) c.take-step.new.memory c.take-step.new.engine.reports in
-    let made = c.take-step.ensures.made.made in
+    let u = state (M.opened c.take_step.new.engine.mapper) c.take_step.new.memory c.take_step.new.engine.reports in
+    let made = c.take_step.ensures.made.made in
     let same : here M.kind M.setup c.loop-i.engine.mapper c.loop-i.memory ≡ W =
     ap (λ n. world M.kind (M.setup c.loop-i.engine.mapper) n) c.loop-i.auto.memory ∙ ap (λ S. world M.kind S (length c.args.memory.now)) c.loop-i.invariant.1 in
     let more : Ran W s u (take i old ++ (x ∷ [])) (take i now' ++ (y ∷ [])) =
     ran_more W s t u (take i old) (take i now') x y c.loop-i.invariant.3
     (subst (λ (V : World). answer_of y ≡ answer V t (call_of x)) same made.answers)
     (subst (λ (V : World). u ≡ after V t (call_of x)) same made.becomes)
-    c.take-step.ensures.made.buffer in
+    c.take_step.ensures.made.buffer in
     let before : take (i + 1) old ≡ take i old ++ (x ∷ []) = take_more old i d c.loop-i-test.true ∙ ap (λ (z : Step). take i old ++ (z ∷ [])) (sym rest.0) in
     let past : take (i + 1) (set now' i y) ≡ take i now' ++ (y ∷ []) = take_more_set now' i y here' in (
       made.stays,

@@ -9,6 +9,6 @@ use Rattle.script.proofs.value.card_write.Goals as goal
 pub returns : goal.returns
 returns c =
     let v = c.args.value.now in
-    let to = c.u64-at.ensures in
+    let to = c.u64_at.ensures in
     let rest = take_rest v 9 in
     (λ i. Ok (card_write (card v) (record { 0 = to i }) (rest i))) ∙ sym (trailed_fits 9 v _ (omega arith) (omega arith))

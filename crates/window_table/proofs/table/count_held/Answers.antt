@@ -3,7 +3,7 @@ use Rattle.std.proofs.lemmas.List.{drop_all}
 use Rattle.window_table.specs.Slots.{free_window, opened_of}
 use Rattle.window_table.proofs.Slots.{count_none}
 use Rattle.window_table.proofs.Looking.{count_step, count_skip}
-use Rattle.window_table.proofs.table.count_held.Goals.{then-is-some, else-is-some}
+use Rattle.window_table.proofs.table.count_held.Goals.{then-is_some, else-is_some}
 use Rattle.window_table.proofs.table.count_held.Goals as goal
 
 pub loop-window-preserved : goal.loop-window-preserved
@@ -12,9 +12,9 @@ loop-window-preserved c =
     let i = c.loop-window.window-index in
     let most = c.loop-window.invariant.0 in
     let inv = c.loop-window.invariant.1 in
-    elim c.if-is-some.branch [
-      | then-is-some w ↦ (let n = w.count-is in let s = count_step ws i c.loop-window-test.true (sym c.is-some.ensures ∙ w.if-is-some.true) in (omega arith, omega arith))
-      | else-is-some w ↦ (let n = w.count-is in let s = count_skip ws i c.loop-window-test.true (sym c.is-some.ensures ∙ w.if-is-some.false) in (omega arith, omega arith))
+    elim c.if-is_some.branch [
+      | then-is_some w ↦ (let n = w.count-is in let s = count_step ws i c.loop-window-test.true (sym c.is_some.ensures ∙ w.if-is_some.true) in (omega arith, omega arith))
+      | else-is_some w ↦ (let n = w.count-is in let s = count_skip ws i c.loop-window-test.true (sym c.is_some.ensures ∙ w.if-is_some.false) in (omega arith, omega arith))
     ]
 
 pub returns : goal.returns

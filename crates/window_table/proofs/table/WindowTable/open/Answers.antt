@@ -12,9 +12,9 @@ returns-in-Some c = let h = c.in-Some.ensures in let ws = c.args.self.now.window
       one = one_set ws i c.open.new.self;
     }
 
-pub returns-in-default : goal.returns-in-default
-returns-in-default c =
+pub returns-in_default : goal.returns-in_default
+returns-in_default c =
     let ws = c.args.self.now.windows in
-    let l = count_full ws c.in-default.ensures in
+    let l = count_full ws c.in_default.ensures in
     let e : length ws ≡ 8 = omega arith in
     record { opens = λ room apart. absurd (omega arith); one = none_set ws }

@@ -11,38 +11,38 @@ use Rattle.window_table.proofs.Laws.{choice_own}
 use Rattle.windows.proofs.Calls.{setup_in, refused_call, opened_call, still_lawful, one_more}
 use Rattle.windows.proofs.mapping.WindowsMapper.map.Goals as goal
 
-pub returns-in-err-admit : goal.returns-in-err-admit
+pub returns-in_err-admit : goal.returns-in_err-admit
 unfolding verdict
-returns-in-err-admit c =
-    let p = err_from_is_err_and c.from-residual.result c.from-residual.ensures.1 in
-    rw (p.1, p.2) (refused_call c.args.self.now c.args.memory.now (map c.args.request) c.in-err-admit.field-0.0 (c.in-err-admit.ensures _))
+returns-in_err-admit c =
+    let p = err_from_is_err_and c.from_residual.result c.from_residual.ensures.1 in
+    rw (p.1, p.2) (refused_call c.args.self.now c.args.memory.now (map c.args.request) c.in_err-admit.field-0.0 (c.in_err-admit.ensures _))
 
 pub place-requires : goal.place-requires
 place-requires c =
-    let a = admitted_facts (here window_kind setup_in c.args.self.now c.args.memory.now) c.args.request fine (c.in-ok-admit.ensures fine) in
+    let a = admitted_facts (here window_kind setup_in c.args.self.now c.args.memory.now) c.args.request fine (c.in_ok-admit.ensures fine) in
     record { card = a.card; some = a.some }
 
-pub returns-in-err-placement : goal.returns-in-err-placement
+pub returns-in_err-placement : goal.returns-in_err-placement
 unfolding verdict
-returns-in-err-placement c =
-    let p = err_from_is_err_and c.from-residual-in-err-placement.result c.from-residual-in-err-placement.ensures.1 in
-    rw (p.1, p.2) (refused_call c.args.self.now c.args.memory.now (map c.args.request) c.in-err-placement.field-0.0
-    (c.in-ok-admit.ensures _ ∙ ap chosen (sym c.in-err-placement.ensures)))
+returns-in_err-placement c =
+    let p = err_from_is_err_and c.from_residual-in_err-placement.result c.from_residual-in_err-placement.ensures.1 in
+    rw (p.1, p.2) (refused_call c.args.self.now c.args.memory.now (map c.args.request) c.in_err-placement.field-0.0
+    (c.in_ok-admit.ensures _ ∙ ap chosen (sym c.in_err-placement.ensures)))
 
 pub invariant-of-self : goal.invariant-of-self
 invariant-of-self c =
     let s = c.args.self.now in
-    let admit = c.in-ok-admit.ensures in
-    let e = sym c.in-ok-placement.ensures in
-    let p = c.in-ok-placement.placement in
-    let opens = one_more s c.args.memory.now c.args.request p admit e c.new-mapping.result (opened_of c.open.new.self.windows) c.new-mapping.ensures c.open.ensures.opens in
+    let admit = c.in_ok-admit.ensures in
+    let e = sym c.in_ok-placement.ensures in
+    let p = c.in_ok-placement.placement in
+    let opens = one_more s c.args.memory.now c.args.request p admit e c.new_mapping.result (opened_of c.open.new.self.windows) c.new_mapping.ensures c.open.ensures.opens in
     (s.ranged, (ap (lawful (setup_of s.geometry)) opens ∙ still_lawful s c.args.memory.now c.args.request p admit e, tt))
 
 pub returns : goal.returns
 returns c =
     let s = c.args.self.now in
-    let admit = c.in-ok-admit.ensures in
-    let e = sym c.in-ok-placement.ensures in
-    let p = c.in-ok-placement.placement in
-    let opens = one_more s c.args.memory.now c.args.request p admit e c.new-mapping.result (opened_of c.open.new.self.windows) c.new-mapping.ensures c.open.ensures.opens in
+    let admit = c.in_ok-admit.ensures in
+    let e = sym c.in_ok-placement.ensures in
+    let p = c.in_ok-placement.placement in
+    let opens = one_more s c.args.memory.now c.args.request p admit e c.new_mapping.result (opened_of c.open.new.self.windows) c.new_mapping.ensures c.open.ensures.opens in
     opened_call s _ c.args.memory.now refl c.args.request p admit e (choice_own (setup_of s.geometry) (opened_of s.table.windows) c.args.request p e) opens c.open.ensures.one

@@ -13,11 +13,11 @@ use Rattle.window_table.specs.Slots.{opened_of}
 use Rattle.windows.proofs.Calls.{refused_call, turned_call}
 use Rattle.windows.proofs.mapping.WindowsMapper.sync.Goals as goal
 
-pub returns-in-err-turning : goal.returns-in-err-turning
+pub returns-in_err-turning : goal.returns-in_err-turning
 unfolding verdict
-returns-in-err-turning c =
-    let p = err_from_is_err_and c.from-residual.result c.from-residual.ensures.1 in
-    rw (p.1, p.2) (refused_call c.args.self.now c.args.memory.now (sync c.args.call c.args.card.0 c.args.device.0) c.in-err-turning.field-0.0 c.in-err-turning.ensures)
+returns-in_err-turning c =
+    let p = err_from_is_err_and c.from_residual.result c.from_residual.ensures.1 in
+    rw (p.1, p.2) (refused_call c.args.self.now c.args.memory.now (sync c.args.call c.args.card.0 c.args.device.0) c.in_err-turning.field-0.0 c.in_err-turning.ensures)
 
 pub invariant-of-self : goal.invariant-of-self
 invariant-of-self c =
@@ -31,5 +31,5 @@ returns c =
     let s = c.args.self.now in
     let o = opened_of s.table.windows in
     let e = c.turn.ensures.turns (setup_of s.geometry) s.kept in
-    turned_call s _ c.args.memory.now refl c.args.call c.args.card.0 c.args.device.0 c.in-ok-turning.field-0 c.in-ok-turning.ensures.0 c.in-ok-turning.ensures.1
+    turned_call s _ c.args.memory.now refl c.args.call c.args.card.0 c.args.device.0 c.in_ok-turning.field-0 c.in_ok-turning.ensures.0 c.in_ok-turning.ensures.1
     (e ∙ ap (λ (h : Holder). turn h c.args.card.0 c.args.device.0 o) c.holder.ensures) c.turn.ensures.one

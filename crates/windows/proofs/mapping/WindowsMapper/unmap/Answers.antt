@@ -9,11 +9,11 @@ use Rattle.window_table.specs.Slots.{opened_of}
 use Rattle.windows.proofs.Calls.{refused_call, closed_call}
 use Rattle.windows.proofs.mapping.WindowsMapper.unmap.Goals as goal
 
-pub returns-in-err-closing : goal.returns-in-err-closing
+pub returns-in_err-closing : goal.returns-in_err-closing
 unfolding verdict
-returns-in-err-closing c =
-    let p = err_from_is_err_and c.from-residual.result c.from-residual.ensures.1 in
-    rw (p.1, p.2) (refused_call c.args.self.now c.args.memory.now (unmap c.args.card.0 c.args.direction c.args.device.0 c.args.length) c.in-err-closing.field-0.0 c.in-err-closing.ensures)
+returns-in_err-closing c =
+    let p = err_from_is_err_and c.from_residual.result c.from_residual.ensures.1 in
+    rw (p.1, p.2) (refused_call c.args.self.now c.args.memory.now (unmap c.args.card.0 c.args.direction c.args.device.0 c.args.length) c.in_err-closing.field-0.0 c.in_err-closing.ensures)
 
 pub invariant-of-self : goal.invariant-of-self
 invariant-of-self c =
@@ -25,5 +25,5 @@ invariant-of-self c =
 pub returns : goal.returns
 returns c =
     let s = c.args.self.now in
-    closed_call s _ c.args.memory.now refl c.args.card.0 c.args.direction c.args.device.0 c.args.length c.in-ok-closing.field-0 c.in-ok-closing.ensures.0 c.in-ok-closing.ensures.1
+    closed_call s _ c.args.memory.now refl c.args.card.0 c.args.direction c.args.device.0 c.args.length c.in_ok-closing.field-0 c.in_ok-closing.ensures.0 c.in_ok-closing.ensures.1
     (c.close.ensures.closes (setup_of s.geometry) s.kept) c.close.ensures.one

@@ -24,24 +24,24 @@ page-is w r used n some e f =
     ∙ ap (λ (u : List (Range DevicePage)). choice page_number 1 (last_of (setup_of w.geometry) r.card.0) u (span r.buffer.address r.buffer.length)) (sym e)
     ∙ ap (λ (k : ℕ). choice page_number 1 (last_of (setup_of w.geometry) r.card.0) used k) (sym f)
 
-pub returns-in-err-page : goal.returns-in-err-page
-returns-in-err-page c =
+pub returns-in_err-page : goal.returns-in_err-page
+returns-in_err-page c =
     let w = c.args.self.now in
     let r = c.args.request in
-    let p = err_from_is_err_and c.from-residual.result c.from-residual.ensures.1 in
-    let v = c.in-err-page.ensures.value in
-    let e = page-is w r c.used-pages-used.result c.span.result c.requires.some c.used-pages-used.ensures c.span.ensures.value in
+    let p = err_from_is_err_and c.from_residual.result c.from_residual.ensures.1 in
+    let v = c.in_err-page.ensures.value in
+    let e = page-is w r c.used_pages-used.result c.span.result c.requires.some c.used_pages-used.ensures c.span.ensures.value in
     rw (p.1, p.2) (ap (λ (f : Fault). Err f) (v.1 ∙ ap (λ (n : ℕ). record { kind = Rattle.units.specs.declared.fault.FaultKind.TheVariants.NoPages; layer = 0; place = n }) c.span.ensures.value)
     ∙ choice_full (setup_of w.geometry) (opened_of w.table.windows) r (e ∙ v.0))
 
-pub returns-then-is-full : goal.returns-then-is-full
-returns-then-is-full c =
+pub returns-then-is_full : goal.returns-then-is_full
+returns-then-is_full c =
     let w = c.args.self.now in
     let r = c.args.request in
     let o = opened_of w.table.windows in
-    let e = page-is w r c.used-pages-used.result c.span.result c.requires.some c.used-pages-used.ensures c.span.ensures.value in
-    ap (λ (f : Fault). Err f) c.at.ensures ∙ sym (cond-true (leb 8 (length o)) no_window (Ok (placed_at r c.in-ok-page.page.0)) (sym c.if-is-full.ensures))
-    ∙ choice_found (setup_of w.geometry) o r c.in-ok-page.page.0 (e ∙ c.in-ok-page.ensures.value)
+    let e = page-is w r c.used_pages-used.result c.span.result c.requires.some c.used_pages-used.ensures c.span.ensures.value in
+    ap (λ (f : Fault). Err f) c.at.ensures ∙ sym (cond-true (leb 8 (length o)) no_window (Ok (placed_at r c.in_ok-page.page.0)) (sym c.if-is_full.ensures))
+    ∙ choice_found (setup_of w.geometry) o r c.in_ok-page.page.0 (e ∙ c.in_ok-page.ensures.value)
 
 low : (w : Windows) (r : Request) (used : List (Range DevicePage)) (n p : ℕ) → r.card.0 < w.geometry.cards → 0 < n
     → choice page_number 1 (last_of (setup_of w.geometry) r.card.0) used n ≡ Some p → p < 2 ^ 36
@@ -50,18 +50,18 @@ low w r used n p card some e =
     let last = (w.ranged.2 r.card.0 card).1 in
     omega arith
 
-pub overflow-mul-device : goal.overflow-mul-device
-overflow-mul-device c =
+pub overflow_mul-device : goal.overflow_mul-device
+overflow_mul-device c =
     let some = c.requires.some in
     let n = c.span.ensures.value in
-    let h = low c.args.self.now c.args.request c.used-pages-used.result c.span.result c.in-ok-page.page.0 c.requires.card (omega arith) c.in-ok-page.ensures.value in
+    let h = low c.args.self.now c.args.request c.used_pages-used.result c.span.result c.in_ok-page.page.0 c.requires.card (omega arith) c.in_ok-page.ensures.value in
     omega arith
 
-pub overflow-add-device : goal.overflow-add-device
-overflow-add-device c =
+pub overflow_add-device : goal.overflow_add-device
+overflow_add-device c =
     let some = c.requires.some in
     let n = c.span.ensures.value in
-    let h = low c.args.self.now c.args.request c.used-pages-used.result c.span.result c.in-ok-page.page.0 c.requires.card (omega arith) c.in-ok-page.ensures.value in
+    let h = low c.args.self.now c.args.request c.used_pages-used.result c.span.result c.in_ok-page.page.0 c.requires.card (omega arith) c.in_ok-page.ensures.value in
     omega arith
 
 pub returns : goal.returns
@@ -69,6 +69,6 @@ returns c =
     let w = c.args.self.now in
     let r = c.args.request in
     let o = opened_of w.table.windows in
-    let e = page-is w r c.used-pages-used.result c.span.result c.requires.some c.used-pages-used.ensures c.span.ensures.value in
-    sym (cond-false (leb 8 (length o)) no_window (Ok (placed_at r c.in-ok-page.page.0)) (sym c.if-is-full.ensures))
-    ∙ choice_found (setup_of w.geometry) o r c.in-ok-page.page.0 (e ∙ c.in-ok-page.ensures.value)
+    let e = page-is w r c.used_pages-used.result c.span.result c.requires.some c.used_pages-used.ensures c.span.ensures.value in
+    sym (cond-false (leb 8 (length o)) no_window (Ok (placed_at r c.in_ok-page.page.0)) (sym c.if-is_full.ensures))
+    ∙ choice_found (setup_of w.geometry) o r c.in_ok-page.page.0 (e ∙ c.in_ok-page.ensures.value)
