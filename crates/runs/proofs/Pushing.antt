@@ -1,5 +1,5 @@
 -- A run one step longer.
-use Rattle.std.proofs.Common.{◌≡◌, ℕ, suc, ◌+◌, ◌<◌, List, [], ◌∷◌, ◌++◌, length, get_or, drop, vec_items, sym, refl, ap, ◌∙◌, subst, arith, drop-cons}
+use Rattle.std.proofs.Common.{◌≡◌, ℕ, suc, ◌+◌, ◌<◌, List, [], ◌∷◌, ◌++◌, length, get_or, drop, vec_items, sym, refl, ap, ◌∙◌, arith, drop-cons}
 use Rattle.meaning.specs.Memory.{bytes_of}
 use Rattle.meaning.specs.Worlds.{World}
 use Rattle.meaning.specs.Calls.{Call, Answer}

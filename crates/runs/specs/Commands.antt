@@ -9,8 +9,7 @@ use Rattle.meaning.specs.Calls.{Call, map, unmap, sync, cpu_read, cpu_write, car
 use Rattle.meaning.specs.Effects.{State, buffer_after}
 use Rattle.meaning.specs.Runs.{answers, final}
 use Rattle.mapper.specs.Tasks.{Task}
-use Rattle.mapper.specs.Called.{here}
-use Rattle.engine.specs.Made.{Made, state}
+use Rattle.engine.specs.Made.{Made}
 use Rattle.runs.specs.declared.command.Command.{Command}
 use Rattle.runs.specs.declared.command.Command.TheVariants.{Map, Unmap, SyncForCpu, SyncForCard, CpuRead, CpuWrite, CardRead, CardWrite, Report}
 use Rattle.runs.specs.declared.command.Reply.{Reply}

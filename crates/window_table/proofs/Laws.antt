@@ -1,5 +1,5 @@
 -- The window mapper keeps the laws.
-use Rattle.std.proofs.Common.{◌≡◌, ℕ, zero, suc, ◌+◌, ◌*◌, ◌/◌, ◌%◌, ◌^◌, ◌<◌, ◌≤◌, Bool, true, false, cond, not, ◌&&◌, ◌||◌, ltb, leb, ◌⊎◌, List, [], ◌∷◌, length, Some, None, Ok, Err, Option, sym, refl, ap, ◌∙◌, subst, inl, inr, arith}
+use Rattle.std.proofs.Common.{◌≡◌, ℕ, zero, suc, ◌^◌, ◌<◌, ◌≤◌, Bool, true, false, cond, ltb, leb, List, [], length, Some, None, Ok, Err, Option, sym, refl, ap, ◌∙◌, subst, inl, inr, arith}
 use Rattle.std.proofs.lemmas.Bool.{and_parts, leb-true, leb-false, ltb-true, lt-ltb, cases_Bool, cond-true, cond-false}
 use Rattle.units.specs.declared.mapping.Mapping.{Mapping}
 use Rattle.units.specs.declared.mapping.Placement.{Placement}
@@ -12,9 +12,9 @@ use Rattle.units.specs.Geometry.{is_last, last_page, in_range}
 use Rattle.chooser.specs.Finding.{choice}
 use Rattle.chooser.proofs.Answer.{choice_none, choice_some}
 use Rattle.chooser.proofs.Same.{any_order}
-use Rattle.meaning.specs.Mappings.{In, key, on_page, insert, reach_of}
-use Rattle.meaning.specs.Worlds.{Setup, last_of, Choice, world}
-use Rattle.meaning.specs.Laws.{DisjointPages, Landings, EmptyRoom, ChoiceRefusals, Bounds, Accepts, OneFrame}
+use Rattle.meaning.specs.Mappings.{In, key, insert, reach_of}
+use Rattle.meaning.specs.Worlds.{Setup, last_of, world}
+use Rattle.meaning.specs.Laws.{DisjointPages, Landings, EmptyRoom, ChoiceRefusals, Bounds, Accepts}
 use Rattle.meaning.specs.Calls.{Call}
 use Rattle.meaning.specs.Effects.{new_mapping, opens_after}
 use Rattle.meaning.proofs.Unique.{one_on_page}

@@ -1,10 +1,10 @@
 -- What the first window that answers with yes tells of the open mappings.
-use Rattle.std.proofs.Common.{◌≡◌, ℕ, zero, suc, ◌+◌, ◌<◌, ◌≤◌, Bool, true, false, cond, ◌&&◌, ◌≢◌, List, [], ◌∷◌, length, get_or, drop, set, is_some, Some, None, Option, sym, refl, ap, ◌∙◌, subst, add-one, arith, drop-cons, get_or-set_other}
+use Rattle.std.proofs.Common.{◌≡◌, ℕ, zero, suc, ◌+◌, ◌<◌, Bool, true, false, cond, ◌&&◌, List, [], ◌∷◌, length, get_or, drop, set, is_some, Some, None, Option, sym, refl, ap, ◌∙◌, add-one, arith, drop-cons, get_or-set_other}
 use Rattle.std.proofs.lemmas.Bool.{cond-true}
 use Rattle.units.specs.declared.mapping.Holder.{Holder}
 use Rattle.units.specs.declared.mapping.Mapping.{Mapping}
 use Rattle.units.specs.declared.mapping.Reach.TheVariants.{Nothing}
-use Rattle.meaning.specs.Mappings.{In, starts, on_page, covers, card_holds, turned, remove, turn, find, held, reach_of, reach_through}
+use Rattle.meaning.specs.Mappings.{starts, on_page, covers, card_holds, turned, remove, turn, find, held, reach_of, reach_through}
 use Rattle.meaning.specs.Worlds.{Setup}
 use Rattle.meaning.specs.Effects.{on_found}
 use Rattle.meaning.proofs.Lists.{find_in, find_none, held_in, held_none, reach_of_in, reach_none, remove_none, turn_none}

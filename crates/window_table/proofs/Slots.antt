@@ -1,14 +1,13 @@
 -- The windows as a list of open mappings: who is in it, and what opening, turning and closing a window does.
-use Rattle.std.proofs.Common.{◌≡◌, ℕ, zero, suc, ◌+◌, ◌/◌, ◌<◌, ◌≤◌, Bool, true, false, cond, ◌&&◌, eqb, ◌⊎◌, List, [], ◌∷◌, length, get_or, set, Some, None, Option, sym, refl, ap, ◌∙◌, subst, inl, inr, arith}
-use Rattle.std.proofs.lemmas.Bool.{and_parts, eqb-true, eq-eqb, cond-true, cond-false, cases_Bool, both_ways}
+use Rattle.std.proofs.Common.{◌≡◌, ℕ, zero, suc, ◌<◌, ◌≤◌, Bool, true, false, cond, eqb, List, [], ◌∷◌, length, get_or, set, Some, None, Option, sym, refl, ap, ◌∙◌, subst, inl, inr, arith}
+use Rattle.std.proofs.lemmas.Bool.{eqb-true, eq-eqb, cond-true, cond-false, cases_Bool, both_ways}
 use Rattle.units.specs.declared.mapping.Holder.{Holder}
 use Rattle.units.specs.declared.mapping.Mapping.{Mapping}
-use Rattle.units.specs.declared.mapping.Reach.{Reach}
 use Rattle.units.specs.declared.mapping.Reach.TheVariants.{Nothing}
 use Rattle.units.specs.declared.number.DevicePage.{DevicePage}
 use Rattle.chooser.specs.declared.gap.Range.{Range}
 use Rattle.chooser.specs.Gaps.{Holds, Untouched}
-use Rattle.meaning.specs.Mappings.{In, Pages, key, starts, on_page, first_page, page_count, turned, insert, remove, turn, reach_of, reach_through}
+use Rattle.meaning.specs.Mappings.{In, Pages, key, starts, on_page, turned, insert, remove, turn, reach_of, reach_through}
 use Rattle.meaning.specs.Worlds.{Setup}
 use Rattle.meaning.specs.Effects.{on_found}
 use Rattle.meaning.proofs.Lists.{insert_in, insert_keeps, in_insert, insert_comm, length_insert, Sorted, sorted_insert, remove_insert_same, remove_insert_other, turn_none, turn_insert, reach_of_in, reach_insert_other}

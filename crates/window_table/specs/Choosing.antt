@@ -1,5 +1,5 @@
 -- Set-up and choice of the window mapper.
-use Rattle.std.specs.Prelude.{◌≡◌, ℕ, ◌<◌, ◌≤◌, Bool, true, false, cond, ◌⊎◌, List, [], length, Some, None, Ok, Err, Option, nat_le, nat_lt}
+use Rattle.std.specs.Prelude.{◌≡◌, ℕ, ◌<◌, ◌≤◌, cond, ◌⊎◌, List, [], length, Some, None, Ok, Err, Option, nat_le, nat_lt}
 use Rattle.units.specs.declared.fault.FaultKind.TheVariants.{NoPages, NoRecord, WrongSetup}
 use Rattle.units.specs.declared.mapping.Mapping.{Mapping}
 use Rattle.units.specs.declared.mapping.Request.{Request}

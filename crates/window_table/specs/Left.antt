@@ -1,8 +1,5 @@
 -- What an accepted call leaves of the windows beyond the open mappings: at most one window is another.
 use Rattle.std.specs.Prelude.{◌≡◌, ℕ, List, ◌≢◌, slice_index_or}
-use Rattle.units.specs.declared.direction.Access.{Access}
-use Rattle.units.specs.declared.mapping.Request.{Request}
-use Rattle.units.specs.declared.mapping.Sync.{Sync}
 use Rattle.mapper.specs.Tasks.{Task, opens, closes, turns, translates}
 use Rattle.window_table.specs.declared.window.Window.{Window}
 use Rattle.window_table.specs.Slots.{free_window}

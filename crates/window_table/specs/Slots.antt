@@ -1,5 +1,5 @@
 -- What the windows hold, as open mappings, as reach and as pages in use.
-use Rattle.std.specs.Prelude.{◌≡◌, ℕ, Bool, true, false, cond, ◌&&◌, List, [], ◌∷◌, Some, None, ◌==◌}
+use Rattle.std.specs.Prelude.{ℕ, Bool, true, false, cond, List, [], ◌∷◌, Some, None, ◌==◌}
 use Rattle.units.specs.declared.mapping.Mapping.{Mapping}
 use Rattle.units.specs.declared.mapping.Reach.{Reach}
 use Rattle.units.specs.declared.mapping.Reach.TheVariants.{Nothing}

@@ -1,5 +1,5 @@
 -- The calls of the window mapper, put together from its checks and what the table did.
-use Rattle.std.proofs.Common.{◌≡◌, ℕ, ◌+◌, ◌*◌, ◌/◌, ◌%◌, ◌^◌, ◌<◌, ◌≤◌, Bool, true, false, List, length, Some, None, Ok, Err, Option, sym, refl, ap, ◌∙◌, subst, arith}
+use Rattle.std.proofs.Common.{◌≡◌, ℕ, ◌<◌, true, false, List, length, Some, Ok, Err, Option, sym, refl, ap, ◌∙◌, subst}
 use Rattle.units.specs.declared.fault.Fault.{Fault}
 use Rattle.units.specs.declared.mapping.Mapping.{Mapping}
 use Rattle.units.specs.declared.mapping.Placement.{Placement}
@@ -8,7 +8,7 @@ use Rattle.units.specs.declared.mapping.Sync.{Sync}
 use Rattle.units.specs.Holders.{holder_after}
 use Rattle.meaning.specs.Memory.{Bytes, bytes_of}
 use Rattle.meaning.specs.Mappings.{In, key, find, insert, remove, turn}
-use Rattle.meaning.specs.Worlds.{World, Setup, Choice, world}
+use Rattle.meaning.specs.Worlds.{Setup, Choice}
 use Rattle.meaning.specs.Calls.{Call, map, unmap, sync, Answer, fails, done, at}
 use Rattle.meaning.specs.Checks.{Verdict, fine, errs, chosen, admitted, unmap_checks, sync_checks, verdict}
 use Rattle.meaning.specs.Effects.{answer, answered, said, new_mapping, on_found, on_choice, copy_in, copy_at_unmap, copy_at_sync}

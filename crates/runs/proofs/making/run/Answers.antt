@@ -1,7 +1,7 @@
-use Rattle.std.proofs.Common.{◌≡◌, ℕ, ◌+◌, ◌<◌, ◌≤◌, List, [], ◌∷◌, ◌++◌, length, get_or, take, drop, set, sym, refl, ap, ◌∙◌, subst, arith, take_all, drop-set-lt}
+use Rattle.std.proofs.Common.{◌≡◌, ◌+◌, ◌<◌, ◌≤◌, List, [], ◌∷◌, ◌++◌, length, get_or, take, set, sym, refl, ap, ◌∙◌, subst, arith, take_all, drop-set-lt}
 use Rattle.std.proofs.lemmas.List.{take_more, take_more_set}
 use Rattle.meaning.specs.Worlds.{World, world}
-use Rattle.meaning.specs.Effects.{State, answer, after}
+use Rattle.meaning.specs.Effects.{answer, after}
 use Rattle.mapper.specs.Called.{here}
 use Rattle.engine.specs.Made.{state}
 use Rattle.runs.specs.declared.command.Step.{Step}

@@ -1,4 +1,4 @@
-use Rattle.std.proofs.Common.{◌≡◌, length, take, drop}
+use Rattle.std.proofs.Common.{◌≡◌, take, drop}
 use Rattle.mapper.specs.Called.{here}
 use Rattle.engine.specs.Made.{state}
 use Rattle.runs.specs.Commands.{Ran}

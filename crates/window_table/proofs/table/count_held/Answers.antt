@@ -1,6 +1,6 @@
-use Rattle.std.proofs.Common.{◌≡◌, ◌+◌, ◌<◌, ◌≤◌, not, length, get_or, drop, sym, ap, ◌∙◌, arith}
+use Rattle.std.proofs.Common.{◌≡◌, length, drop, sym, ap, ◌∙◌, arith}
 use Rattle.std.proofs.lemmas.List.{drop_all}
-use Rattle.window_table.specs.Slots.{free_window, opened_of}
+use Rattle.window_table.specs.Slots.{opened_of}
 use Rattle.window_table.proofs.Slots.{count_none}
 use Rattle.window_table.proofs.Looking.{count_step, count_skip}
 use Rattle.window_table.proofs.table.count_held.Goals.{then-is_some, else-is_some}

@@ -1,6 +1,6 @@
-use Rattle.std.proofs.Common.{◌≡◌, ◌+◌, ◌<◌, ◌≤◌, List, [], ◌∷◌, ◌++◌, length, get_or, take, set, sym, ap, ◌∙◌, arith, length-set, take_all}
+use Rattle.std.proofs.Common.{◌≡◌, ◌<◌, ◌≤◌, [], ◌∷◌, ◌++◌, length, get_or, take, sym, ap, ◌∙◌, arith, length-set, take_all}
 use Rattle.std.proofs.lemmas.List.{take_more, take_more_set}
-use Rattle.window_table.specs.Slots.{free_window, no_pages, pages_in, all_pages}
+use Rattle.window_table.specs.Slots.{no_pages, all_pages}
 use Rattle.window_table.proofs.Looking.{pages_length, pages_at}
 use Rattle.window_table.proofs.table.pages_in.Goals as goal
 

@@ -1,4 +1,4 @@
-use Rattle.std.proofs.Common.{◌≡◌, sym}
+use Rattle.std.proofs.Common.{sym}
 use Rattle.window_table.proofs.Looking.{held_at, not_held}
 use Rattle.window_table.proofs.table.WindowTable.is_held.Goals as goal
 

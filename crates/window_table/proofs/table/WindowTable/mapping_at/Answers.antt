@@ -1,4 +1,4 @@
-use Rattle.std.proofs.Common.{◌≡◌, sym}
+use Rattle.std.proofs.Common.{sym}
 use Rattle.window_table.proofs.Looking.{found_at, not_found}
 use Rattle.window_table.proofs.table.WindowTable.mapping_at.Goals as goal
 

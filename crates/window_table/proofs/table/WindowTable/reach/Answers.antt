@@ -1,4 +1,4 @@
-use Rattle.std.proofs.Common.{◌≡◌, sym, ◌∙◌}
+use Rattle.std.proofs.Common.{sym, ◌∙◌}
 use Rattle.window_table.proofs.Looking.{reached_at, not_reached}
 use Rattle.window_table.proofs.table.WindowTable.reach.Goals as goal
 

@@ -1,4 +1,4 @@
-use Rattle.std.proofs.Common.{◌≡◌, sym, refl, ap, ◌∙◌}
+use Rattle.std.proofs.Common.{sym, refl, ap, ◌∙◌}
 use Rattle.std.proofs.lemmas.Result.{err_from_is_err_and}
 use Rattle.meaning.specs.Calls.{map}
 use Rattle.meaning.specs.Checks.{fine, verdict, chosen}
@@ -29,14 +29,14 @@ returns-in_err-placement c =
     rw (p.1, p.2) (refused_call c.args.self.now c.args.memory.now (map c.args.request) c.in_err-placement.field-0.0
     (c.in_ok-admit.ensures _ ∙ ap chosen (sym c.in_err-placement.ensures)))
 
-pub invariant-of-self : goal.invariant-of-self
-invariant-of-self c =
+pub invariant_of-self : goal.invariant_of-self
+invariant_of-self c =
     let s = c.args.self.now in
     let admit = c.in_ok-admit.ensures in
     let e = sym c.in_ok-placement.ensures in
     let p = c.in_ok-placement.placement in
     let opens = one_more s c.args.memory.now c.args.request p admit e c.new_mapping.result (opened_of c.open.new.self.windows) c.new_mapping.ensures c.open.ensures.opens in
-    (s.ranged, (ap (lawful (setup_of s.geometry)) opens ∙ still_lawful s c.args.memory.now c.args.request p admit e, tt))
+    record { ranged = s.ranged; kept = ap (lawful (setup_of s.geometry)) opens ∙ still_lawful s c.args.memory.now c.args.request p admit e }
 
 pub returns : goal.returns
 returns c =

@@ -1,8 +1,6 @@
-use Rattle.std.proofs.Common.{◌≡◌, true, List, sym, refl, ap, ◌∙◌}
+use Rattle.std.proofs.Common.{refl, ap, ◌∙◌}
 use Rattle.std.proofs.lemmas.Result.{err_from_is_err_and}
 use Rattle.units.specs.declared.mapping.Holder.{Holder}
-use Rattle.units.specs.declared.mapping.Mapping.{Mapping}
-use Rattle.units.specs.Holders.{holder_after}
 use Rattle.meaning.specs.Calls.{sync}
 use Rattle.meaning.specs.Checks.{verdict}
 use Rattle.meaning.specs.Mappings.{turn}
@@ -19,12 +17,12 @@ returns-in_err-turning c =
     let p = err_from_is_err_and c.from_residual.result c.from_residual.ensures.1 in
     rw (p.1, p.2) (refused_call c.args.self.now c.args.memory.now (sync c.args.call c.args.card.0 c.args.device.0) c.in_err-turning.field-0.0 c.in_err-turning.ensures)
 
-pub invariant-of-self : goal.invariant-of-self
-invariant-of-self c =
+pub invariant_of-self : goal.invariant_of-self
+invariant_of-self c =
     let s = c.args.self.now in
     let S = setup_of s.geometry in
     let e = c.turn.ensures.turns S s.kept in
-    (s.ranged, (ap (lawful S) e ∙ lawful_turn S c.holder.result c.args.card.0 c.args.device.0 (opened_of s.table.windows) s.kept, tt))
+    record { ranged = s.ranged; kept = ap (lawful S) e ∙ lawful_turn S c.holder.result c.args.card.0 c.args.device.0 (opened_of s.table.windows) s.kept }
 
 pub returns : goal.returns
 returns c =

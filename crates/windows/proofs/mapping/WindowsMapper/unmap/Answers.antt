@@ -1,4 +1,4 @@
-use Rattle.std.proofs.Common.{◌≡◌, true, sym, refl, ap, ◌∙◌}
+use Rattle.std.proofs.Common.{refl, ap, ◌∙◌}
 use Rattle.std.proofs.lemmas.Result.{err_from_is_err_and}
 use Rattle.meaning.specs.Calls.{unmap}
 use Rattle.meaning.specs.Checks.{verdict}
@@ -15,12 +15,12 @@ returns-in_err-closing c =
     let p = err_from_is_err_and c.from_residual.result c.from_residual.ensures.1 in
     rw (p.1, p.2) (refused_call c.args.self.now c.args.memory.now (unmap c.args.card.0 c.args.direction c.args.device.0 c.args.length) c.in_err-closing.field-0.0 c.in_err-closing.ensures)
 
-pub invariant-of-self : goal.invariant-of-self
-invariant-of-self c =
+pub invariant_of-self : goal.invariant_of-self
+invariant_of-self c =
     let s = c.args.self.now in
     let S = setup_of s.geometry in
     let e = c.close.ensures.closes S s.kept in
-    (s.ranged, (ap (lawful S) e ∙ lawful_remove S c.args.card.0 c.args.device.0 (opened_of s.table.windows) s.kept, tt))
+    record { ranged = s.ranged; kept = ap (lawful S) e ∙ lawful_remove S c.args.card.0 c.args.device.0 (opened_of s.table.windows) s.kept }
 
 pub returns : goal.returns
 returns c =

@@ -1,4 +1,4 @@
-use Rattle.std.proofs.Common.{◌≡◌, ℕ, ◌+◌, ◌*◌, ◌^◌, ◌<◌, ◌≤◌, Bool, true, false, cond, leb, List, length, Some, None, Ok, Err, Option, sym, refl, ap, ◌∙◌, subst, arith}
+use Rattle.std.proofs.Common.{◌≡◌, ℕ, ◌^◌, ◌<◌, leb, List, length, Some, Ok, Err, sym, ap, ◌∙◌, arith}
 use Rattle.std.proofs.lemmas.Result.{err_from_is_err_and}
 use Rattle.std.proofs.lemmas.Bool.{cond-true, cond-false}
 use Rattle.units.specs.declared.number.DevicePage.{DevicePage}
@@ -6,9 +6,9 @@ use Rattle.units.specs.Buffers.{span}
 use Rattle.chooser.specs.declared.gap.Range.{Range}
 use Rattle.chooser.specs.Finding.{choice}
 use Rattle.chooser.proofs.Answer.{choice_free}
-use Rattle.meaning.specs.Worlds.{Choice, last_of}
+use Rattle.meaning.specs.Worlds.{last_of}
 use Rattle.pages.specs.Pages.{page_number, page_for, placed_at}
-use Rattle.window_table.specs.Choosing.{setup_of, no_window, window_choice}
+use Rattle.window_table.specs.Choosing.{setup_of, no_window}
 use Rattle.window_table.specs.Slots.{opened_of, all_pages}
 use Rattle.window_table.proofs.Laws.{same_page, choice_full, choice_found}
 use Rattle.windows.specs.declared.windows.Windows.{Windows}
