@@ -2,7 +2,7 @@
 use Rattle.std.proofs.Common.{◌≡◌, ℕ, zero, suc, ◌+◌, ◌-◌, ◌/◌, ◌^◌, ◌<◌, ◌≤◌, List, [], ◌∷◌, ◌++◌, length, take, drop, Some, None, Ok, sym, refl, ap, ◌∙◌, append_assoc, append-nil, pow-suc, arith, length-append}
 use Rattle.std.proofs.lemmas.Nat.{div_below}
 use Rattle.std.proofs.lemmas.List.{take_at, take_all, drop_at, drop-drop, get_or_at}
-use Rattle.std.specs.List.{between, AllByRecursion as All}
+use Rattle.std.specs.List.{between, AllByRecursion}
 use Rattle.script.specs.Encoding.{tag_of, fields_of, record_of, encode}
 use Rattle.script.specs.Format.{found, placed, end_at, standing, item_at}
 use Rattle.script.specs.Items.{Item, map, unmap, sync_for_cpu, sync_for_card, cpu_write, cpu_read, card_write, card_read}
@@ -82,7 +82,7 @@ item_back front item left h =
     let next : length front + 3 + length (fields_of item) ≡ length (front ++ record_of item) = rw length-append (omega arith) in
     rw (← next) (framed front (tag_of item) (fields_of item) left item (value_short item h) (value_back item h))
 
-script_back : (turns : ℕ) (front : List ℕ) (items : List Item) → All Fitting items → length (encode items) ≤ turns → read_for turns (front ++ encode items) (length front) ≡ record { items = items; refusal = None }
+script_back : (turns : ℕ) (front : List ℕ) (items : List Item) → AllByRecursion Fitting items → length (encode items) ≤ turns → read_for turns (front ++ encode items) (length front) ≡ record { items = items; refusal = None }
 script_back zero front [] h few = refl
 script_back (suc turns) front [] h few = rw (none_left (front ++ []) (length front) (rw append-nil (omega arith)))
 script_back zero front (item ∷ items) h few = absurd (omega (arith, length-append (record_of item) (encode items)))

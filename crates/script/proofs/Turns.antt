@@ -1,7 +1,7 @@
 -- Each turn of reading goes on by three bytes at least, so as many turns as bytes are enough.
 use Rattle.std.proofs.Common.{◌≡◌, ℕ, zero, suc, ◌+◌, ◌-◌, ◌*◌, ◌≤◌, List, length, take, refl, ◌∙◌, arith}
 use Rattle.script.specs.Format.{Parsed, end, refused, found, item_at}
-use Rattle.script.specs.Laws.{Goes_on, Ends}
+use Rattle.script.specs.Laws.{GoesOn, Ends}
 use Rattle.script.specs.Scripts.{Script, go_on, read_for, read_from}
 use Rattle.script.proofs.Places.{none_left, Onward, item_onward}
 
@@ -19,7 +19,7 @@ turns_same (suc m) zero s at hm hn = rw (none_left s at (omega arith))
 turns_same (suc m) (suc n) s at hm hn =
     go_on_same (read_for m s) (read_for n s) at _ (item_at s at) (item_onward s at) (λ next past. turns_same m n s next (omega arith) (omega arith))
 
-pub goes_on : Goes_on
+pub goes_on : GoesOn
 goes_on s at =
     turns_same (length s - at) (suc (length s - at)) s at (omega arith) (omega arith)
     ∙ go_on_same (read_for (length s - at) s) (read_from s) at _ (item_at s at) (item_onward s at) (λ next past. turns_same _ _ s next (omega arith) (omega arith))

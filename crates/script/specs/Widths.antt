@@ -1,6 +1,6 @@
 -- Which items a record can hold: each field fits its width.
 use Rattle.std.specs.Prelude.{ℕ, ◌^◌, ◌<◌, ◌≤◌, List, length}
-use Rattle.std.specs.List.{AllByRecursion as All}
+use Rattle.std.specs.List.{AllByRecursion}
 use Rattle.units.specs.declared.number.Card.{Card}
 use Rattle.units.specs.declared.number.DeviceAddress.{DeviceAddress}
 use Rattle.script.specs.Items.{Item, map, unmap, sync_for_cpu, sync_for_card, cpu_write, cpu_read, card_write, card_read}
@@ -17,7 +17,7 @@ Target card device = Byte card.0 × (device.0 < 2 ^ 64)
 
 -- 1 to 64 bytes
 abbrev pub Data : List ℕ → Type 0
-Data bytes = (1 ≤ length bytes) × (length bytes ≤ 64) × All Byte bytes
+Data bytes = (1 ≤ length bytes) × (length bytes ≤ 64) × AllByRecursion Byte bytes
 
 abbrev pub Fitting : Item → Type 0
 Fitting (map r) = Byte r.card.0 × Byte r.direction × Word r.buffer.address × Word r.buffer.length

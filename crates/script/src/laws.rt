@@ -1,5 +1,5 @@
 // What holds of every script, each law as the contract of a function.
-ghost use Rattle.script.specs.Laws.{RoundTrip, Goes_on, Ends};
+ghost use Rattle.script.specs.Laws.{RoundTrip, GoesOn, Ends};
 
 // Items that fit their fields are read back as they were written, with no refusal.
 pub fn round_trip_stands() -> u8
@@ -10,7 +10,7 @@ pub fn round_trip_stands() -> u8
 
 // Reading goes on from each record to the next, until the end or a refusal.
 pub fn reading_goes_on() -> u8
-    ensures { Goes_on }
+    ensures { GoesOn }
 {
     0
 }
