@@ -1,7 +1,7 @@
 #!/usr/bin/env python3
 """Turns the repository's own definitions, constructors, fields and lemmas to one spelling: words in snake case, types in camel case.
 
-usage: python3 tools/respell.py        once, at the top, after the kit's port.py
+usage: python3 tools/respell.py        once, at the top, after the kit's port.py; a second time it finds nothing to do and stops
 
 It writes crates/**/*.antt and the clauses of crates/**/*.rt, and lays them out by `rt fmt`. Functions of src/ and strings keep their words; a
 name of a definition in a comment is turned with it. A lemma whose name would fall together with its function's gets `_lem`.
@@ -85,7 +85,15 @@ def line_turned(line, mark):
     return "".join(parts) + sep + turned(comment, True)
 
 
+def is_turned():
+    # `none_of` was a lemma's name and is now its function's, so a second turn would rename the function too
+    with open("crates/meaning/specs/Checks.antt", encoding="utf-8") as f:
+        return "noneOf" not in f.read()
+
+
 def main():
+    if is_turned():
+        raise SystemExit("respell: the names have today's spelling: nothing to do")
     for folder, dirs, files in os.walk("crates"):
         dirs[:] = [d for d in dirs if d != "out"]
         for name in files:
