@@ -7,18 +7,17 @@ mod tests {
     use mapper::Mapper;
     use runs::{Command, Reply, make};
     use session::bare_windows;
-    use std::test::Fail;
-    use units::{Buffer, Card, DeviceAddress, DevicePage, Geometry, Request};
+    use units::{
+        Block, Buffer, Card, DeviceAddress, DevicePage, Fault, FaultKind, Geometry, Report, Request,
+    };
     use windows::Windows;
 
-    // Number, layer and place of a refusal; 0 with a device address, and 0 alone, where there is none.
-    fn told(reply: Reply) -> (u8, u32, u64) {
-        match reply {
-            Reply::Refused(fault) => (fault.kind.number(), fault.layer, fault.place),
-            Reply::At(device) => (0, 0, device.0),
-            Reply::Done => (0, 0, 0),
-            Reply::Bytes => (0, 0, 0),
-            Reply::Told(report) => (0, 0, report.count as u64),
+    // The device address that a map answers, or else 0; number, layer and place of a refusal.
+    fn told(answer: Result<Reply, Fault>) -> Result<u64, (u8, u32, u64)> {
+        match answer {
+            Ok(Reply::At(device)) => Ok(device.0),
+            Ok(_) => Ok(0),
+            Err(fault) => Err((u8::from(fault.kind), fault.layer, fault.place)),
         }
     }
 
@@ -47,19 +46,20 @@ mod tests {
         engine: &mut Engine<Windows>,
         memory: &mut [u8],
         command: Command<'_>,
-    ) -> (u8, u32, u64) {
+    ) -> Result<u64, (u8, u32, u64)> {
         let mut out = [0u8; 64];
         told(make(engine, memory, command, &mut out))
     }
 
-    fn number_of(cards: u8, last: u64, frames: u32) -> u8 {
+    // The number of the refusal of a set-up.
+    fn refusal_of(cards: u8, last: u64, frames: u32) -> Option<u8> {
         let page = DevicePage(last);
         let windows = Windows::set_up(Geometry {
             cards,
             lasts: [page, page, page, page],
             frames,
         });
-        windows.number()
+        windows.refusal().map(u8::from)
     }
 
     #[test]
@@ -100,14 +100,14 @@ mod tests {
 
     #[test]
     fn set_up_numbers(rt: HostRuntime) {
-        assert_eq!(rt; number_of(1, 1, 1), 0);
-        assert_eq!(rt; number_of(4, 68719476735, 1024), 0);
-        assert_eq!(rt; number_of(0, 1, 1), 16);
-        assert_eq!(rt; number_of(5, 1, 1), 16);
-        assert_eq!(rt; number_of(1, 0, 1), 16);
-        assert_eq!(rt; number_of(1, 68719476736, 1), 16);
-        assert_eq!(rt; number_of(1, 1, 0), 16);
-        assert_eq!(rt; number_of(1, 1, 1025), 16);
+        assert_eq!(rt; refusal_of(1, 1, 1), None);
+        assert_eq!(rt; refusal_of(4, 68719476735, 1024), None);
+        assert_eq!(rt; refusal_of(0, 1, 1), Some(16));
+        assert_eq!(rt; refusal_of(5, 1, 1), Some(16));
+        assert_eq!(rt; refusal_of(1, 0, 1), Some(16));
+        assert_eq!(rt; refusal_of(1, 68719476736, 1), Some(16));
+        assert_eq!(rt; refusal_of(1, 1, 0), Some(16));
+        assert_eq!(rt; refusal_of(1, 1, 1025), Some(16));
     }
 
     #[test]
@@ -119,9 +119,12 @@ mod tests {
             frames: 1,
         }));
         let mut memory = [0u8; 4096];
-        assert_eq!(rt; ask(&mut engine, &mut memory, map(0, 0, 0, 1)), (1, 0, 0));
-        assert_eq!(rt; ask(&mut engine, &mut memory, cpu_read(0)), (3, 0, 0));
-        assert_eq!(rt; ask(&mut engine, &mut memory, cpu_read(1)), (4, 0, 0));
+        assert_eq!(rt;
+            ask(&mut engine, &mut memory, map(0, 0, 0, 1)),
+            Err((1, 0, 0))
+        );
+        assert_eq!(rt; ask(&mut engine, &mut memory, cpu_read(0)), Err((3, 0, 0)));
+        assert_eq!(rt; ask(&mut engine, &mut memory, cpu_read(1)), Err((4, 0, 0)));
     }
 
     #[test]
@@ -133,15 +136,12 @@ mod tests {
             frames: 1,
         }));
         let mut memory = [0u8; 4096];
+        assert_eq!(rt; ask(&mut engine, &mut memory, map(0, 0, 0, 4096)), Ok(4096));
         assert_eq!(rt;
-            ask(&mut engine, &mut memory, map(0, 0, 0, 4096)),
-            (0, 0, 4096)
+            ask(&mut engine, &mut memory, map(0, 0, 0, 1)),
+            Err((10, 0, 1))
         );
-        assert_eq!(rt; ask(&mut engine, &mut memory, map(0, 0, 0, 1)), (10, 0, 1));
-        assert_eq!(rt;
-            ask(&mut engine, &mut memory, map(1, 0, 0, 4096)),
-            (0, 0, 4096)
-        );
+        assert_eq!(rt; ask(&mut engine, &mut memory, map(1, 0, 0, 4096)), Ok(4096));
     }
 
     #[test]
@@ -150,33 +150,34 @@ mod tests {
         let mut memory = [0u8; 4096];
         assert_eq!(rt;
             ask(&mut engine, &mut memory, map(0, 0, 0, 1)),
-            (4, 0, 32768)
+            Err((4, 0, 32768))
         );
         assert_eq!(rt;
             ask(&mut engine, &mut memory, card_read(0, 4096, 1)),
-            (4, 0, 32768)
+            Err((4, 0, 32768))
         );
     }
 
     #[test]
-    fn the_latest_block(rt: HostRuntime) -> Result<(), Fail> {
+    fn the_latest_block(rt: HostRuntime) {
         let mut engine = bare_windows();
         let mut memory = [0u8; 32768];
         assert_eq!(rt;
             ask(&mut engine, &mut memory, card_read(1, 0x7010, 4)),
-            (14, 0, 0)
+            Err((14, 0, 0))
         );
-        let Ok(report) = engine.report(Card(1)) else {
-            return Err(Fail::new("no report"));
-        };
-        let Some(block) = report.latest else {
-            return Err(Fail::new("no block"));
-        };
-        assert_eq!(rt; report.count, 1);
-        assert_eq!(rt; block.device.0, 0x7010);
-        assert_eq!(rt; block.kind.number(), 14);
-        assert_eq!(rt; block.level, 0);
-        Ok(())
+        assert_eq!(rt; u8::from(FaultKind::Absent), 14);
+        assert_eq!(rt;
+            engine.report(Card(1)),
+            Ok(Report {
+                count: 1,
+                latest: Some(Block {
+                    device: DeviceAddress(0x7010),
+                    kind: FaultKind::Absent,
+                    level: 0,
+                }),
+            })
+        );
     }
 
     #[test]
@@ -185,17 +186,17 @@ mod tests {
         let mut memory = [7u8; 32768];
         let mut out = [9u8; 4];
         let reply = make(&mut engine, &mut memory, cpu_read(2), &mut out);
-        assert_eq!(rt; told(reply), (0, 0, 0));
+        assert_eq!(rt; told(reply), Ok(0));
         assert_eq!(rt; out[1], 7);
         assert_eq!(rt; out[2], 9);
         let mut short = [9u8; 1];
         let refused = make(&mut engine, &mut memory, cpu_read(2), &mut short);
-        assert_eq!(rt; told(refused), (3, 0, 2));
+        assert_eq!(rt; told(refused), Err((3, 0, 2)));
         assert_eq!(rt; short[0], 9);
     }
 
     #[test]
-    fn would_changes_nothing(rt: HostRuntime) -> Result<(), Fail> {
+    fn would_changes_nothing(rt: HostRuntime) {
         let engine = bare_windows();
         let memory = [0u8; 32768];
         let request = Request {
@@ -206,11 +207,10 @@ mod tests {
                 length: 2,
             },
         };
-        let Ok(device) = engine.mapper.would(&memory, request) else {
-            return Err(Fail::new("refused"));
-        };
-        assert_eq!(rt; device.0, 0xffffefff);
+        assert_eq!(rt;
+            engine.mapper.would(&memory, request),
+            Ok(DeviceAddress(0xffffefff))
+        );
         assert_eq!(rt; engine.mapper.open_count(), 0);
-        Ok(())
     }
 }

@@ -1,4 +1,4 @@
-pub mod Steps
+pub mod Folds
 pub mod Right
 pub mod Order
 pub mod Answer

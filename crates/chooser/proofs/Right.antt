@@ -1,6 +1,8 @@
 -- What is found is the best gap, whatever the preference, and there is one best gap at most.
 use Rattle.std.proofs.Common.{◌≡◌, ℕ, suc, ◌+◌, ◌-◌, ◌<◌, ◌≤◌, Bool, true, false, cond, ◌&&◌, ltb, leb, ◌⊎◌, List, [], ◌∷◌, Some, None, Option, sym, refl, ap, ◌∙◌, subst, inl, inr, ⊎_elim, arith}
-use Rattle.std.proofs.lemmas.Bool.{leb-true, leb-false, ltb-true, ltb-false, le-leb, lt-ltb, and_parts, and_from, and_cases, cases_Bool, cases_lt, cases_eq, cond-true, cond-false, cond_both, both_ways}
+use Rattle.std.proofs.lemmas.Bool.{leb-true, ltb-true, ltb-false, and_parts, cases_Bool, cases_eq, cond-true, cond_both}
+use Rattle.std.proofs.lemmas.Option.{cond_some}
+use Rattle.std.proofs.lemmas.Bool.Decides.{nat_tests}
 use Rattle.chooser.specs.declared.gap.Range.{Range}
 use Rattle.chooser.specs.declared.gap.Gap.{Gap}
 use Rattle.chooser.specs.Preference.{Order}
@@ -11,81 +13,38 @@ module _ {N : Type 0} (v : N → ℕ) where
   -- the tests say what they should
 
   held_true : (r : Range N) (x : ℕ) → held v r x ≡ true → Holds v r x
-  held_true r x e =
-      let a = and_parts _ _ e in
-      let b = leb-true _ _ a.0 in
-      let c = ltb-true _ _ a.1 in
-      (b, omega arith)
+  held_true r x e = grind (arith, nat_tests)
 
   held_false : (r : Range N) (x : ℕ) → held v r x ≡ false → Holds v r x → ⊥
-  held_false r x e h =
-      ⊎_elim
-      (λ a. let b = leb-false (v r.first) x a in let c = h.0 in omega arith)
-      (λ a. let b = ltb-false (x - v r.first) r.count a in let c = h.0 in let d = h.1 in omega arith)
-      (and_cases (leb (v r.first) x) (ltb (x - v r.first) r.count) e)
+  held_false r x e h = grind (arith, nat_tests)
 
   pub clear_true : (rs : List (Range N)) (x : ℕ) → clear v rs x ≡ true → Untouched v rs x
   clear_true [] x e = tt
-  clear_true (r ∷ rs) x e =
-      ⊎_elim
-      (λ a. absurd (both_ways _ (cond-true (held v r x) false (clear v rs x) a) e))
-      (λ a. (held_false r x a, clear_true rs x (sym (cond-false (held v r x) false (clear v rs x) a) ∙ e)))
-      (cases_Bool (held v r x))
+  clear_true (r ∷ rs) x e = (λ h. grind (arith, nat_tests), clear_true rs x (grind (arith, nat_tests)))
 
   pub clear_from : (rs : List (Range N)) (x : ℕ) → Untouched v rs x → clear v rs x ≡ true
   clear_from [] x u = refl
-  clear_from (r ∷ rs) x u =
-      ⊎_elim
-      (λ a. absurd (u.0 (held_true r x a)))
-      (λ a. cond-false (held v r x) false (clear v rs x) a ∙ clear_from rs x u.1)
-      (cases_Bool (held v r x))
+  clear_from (r ∷ rs) x u = grind (arith, nat_tests, u.0, clear_from rs x u.1)
 
   -- the end of a run from s
 
   cut_cases : (r : Range N) (s last : ℕ) →
       ((cut_by v r s last ≡ v r.first - 1) × (s < v r.first) × (v r.first ≤ last) × (0 < r.count)) ⊎ ((cut_by v r s last ≡ last) × ((s < v r.first) → (v r.first ≤ last) → (0 < r.count) → ⊥))
-  cut_cases r s last =
-      let a : Bool = ltb s (v r.first) in
-      let b : Bool = leb (v r.first) last in
-      let c : Bool = ltb 0 r.count in
-      ⊎_elim
-      (λ e.
-      let p = and_parts a (b && c) e in
-      let q = and_parts b c p.1 in
-      inl (cond-true (a && (b && c)) (v r.first - 1) last e, ltb-true s (v r.first) p.0, leb-true (v r.first) last q.0, ltb-true 0 r.count q.1))
-      (λ e.
-      inr (
-        cond-false (a && (b && c)) (v r.first - 1) last e,
-        (λ x y z. both_ways (a && (b && c)) e (and_from a (b && c) (lt-ltb s (v r.first) x) (and_from b c (le-leb (v r.first) last y) (lt-ltb 0 r.count z)))),
-      ))
-      (cases_Bool (a && (b && c)))
-
-  cut_le : (r : Range N) (s last : ℕ) → cut_by v r s last ≤ last
-  cut_le r s last = ⊎_elim (λ h. let a = h.0 in let b = h.2 in omega arith) (λ h. let a = h.0 in omega arith) (cut_cases r s last)
-
-  cut_ge : (r : Range N) (s last : ℕ) → s ≤ last → s ≤ cut_by v r s last
-  cut_ge r s last l = ⊎_elim (λ h. let a = h.0 in let b = h.1 in omega arith) (λ h. let a = h.0 in omega arith) (cut_cases r s last)
+  cut_cases r s last = grind (arith, nat_tests)
 
   pub last_le : (rs : List (Range N)) (s last : ℕ) → last_from v rs s last ≤ last
   last_le [] s last = omega arith
-  last_le (r ∷ rs) s last = let a = last_le rs s (cut_by v r s last) in let b = cut_le r s last in omega arith
+  last_le (r ∷ rs) s last = grind (arith, nat_tests, last_le rs s (cut_by v r s last))
 
   pub last_ge : (rs : List (Range N)) (s last : ℕ) → s ≤ last → s ≤ last_from v rs s last
   last_ge [] s last h = h
-  last_ge (r ∷ rs) s last h = last_ge rs s (cut_by v r s last) (cut_ge r s last h)
+  last_ge (r ∷ rs) s last h = last_ge rs s (cut_by v r s last) (grind (arith, nat_tests))
 
   pub run_free : (rs : List (Range N)) (s last x : ℕ) → Untouched v rs s → s ≤ x → x ≤ last_from v rs s last → Untouched v rs x
   run_free [] s last x u h k = tt
   run_free (r ∷ rs) s last x u h k =
       let a = last_le rs s (cut_by v r s last) in (
-        (λ t.
-            let t₀ = t.0 in
-            let t₁ = t.1 in
-            let below : s < v r.first = ⊎_elim (λ z. z) (λ z. absurd (u.0 (z, omega arith))) (cases_lt s (v r.first)) in
-            ⊎_elim
-            (λ c. let c₀ = c.0 in omega arith)
-            (λ c. let c₀ = c.0 in c.1 below (omega arith) (omega arith))
-            (cut_cases r s last)),
+        (λ t. grind (arith, nat_tests, u.0, cut_cases r s last)),
         run_free rs s (cut_by v r s last) x u.1 h k,
       )
 
@@ -93,11 +52,7 @@ module _ {N : Type 0} (v : N → ℕ) where
   run_ends [] s last = inl refl
   run_ends (r ∷ rs) s last =
       ⊎_elim
-      (λ e.
-      ⊎_elim
-      (λ c. inr (λ u. let c₀ = c.0 in let c₁ = c.1 in let c₃ = c.3 in u.0 (omega arith, omega arith)))
-      (λ c. inl (e ∙ c.0))
-      (cut_cases r s last))
+      (λ e. ⊎_elim (λ c. inr (λ u. u.0 (grind arith))) (λ c. inl (e ∙ c.0)) (cut_cases r s last))
       (λ n. inr (λ u. n u.1))
       (run_ends rs s (cut_by v r s last))
 
@@ -113,11 +68,7 @@ module _ {N : Type 0} (v : N → ℕ) where
   behind_from (r ∷ rs) x h e n u =
       ⊎_elim
       (λ t.
-      let a = held_true r x t in
-      let a₀ = a.0 in
-      let a₁ = a.1 in
-      let end : v r.first + r.count ≤ h.first = ⊎_elim (λ z. absurd (u.0 (omega arith, z))) (λ z. z) (cases_lt h.first (v r.first + r.count)) in
-      inl (omega arith, omega arith))
+      inl (grind (arith, held_true r x t, u.0)))
       (λ t. inr (behind_from rs x h e (λ w. n (held_false r x t, w)) u.1))
       (cases_Bool (held v r x))
 
@@ -126,13 +77,11 @@ module _ {N : Type 0} (v : N → ℕ) where
     same_gap g h p q = λ i. record { first = p i; last = q i }
 
     last_not_below : (g h : Gap) → IsGap v lo hi used g → IsGap v lo hi used h → g.first ≡ h.first → g.last < h.last → ⊥
-    last_not_below g h G H e l = let s = G.some in G.high (H.free (suc g.last) (omega arith) (omega arith))
+    last_not_below g h G H e l = G.high (H.free (suc g.last) (omega arith) (omega (arith, G.some)))
 
     pub one_start : (g h : Gap) → IsGap v lo hi used g → IsGap v lo hi used h → g.first ≡ h.first → g ≡ h
     one_start g h G H e =
-        let a : g.last < h.last → ⊥ = last_not_below g h G H e in
-        let b : h.last < g.last → ⊥ = last_not_below h g H G (sym e) in
-        same_gap g h e (⊎_elim (λ z. absurd (a z)) (λ z. ⊎_elim (λ y. absurd (b y)) (λ y. omega arith) (cases_lt h.last g.last)) (cases_lt g.last h.last))
+        same_gap g h e (grind (arith, last_not_below g h G H e, last_not_below h g H G (sym e)))
 
     start_not_inside : (g h : Gap) → IsGap v lo hi used g → IsGap v lo hi used h → g.first < h.first → h.first ≤ g.last → ⊥
     start_not_inside g h G H l k = H.low (h.first - 1) (omega arith) (G.free (h.first - 1) (omega arith) (omega arith))
@@ -141,11 +90,7 @@ module _ {N : Type 0} (v : N → ℕ) where
     same_or_apart g h G H =
         ⊎_elim
         (λ e. inl (one_start g h G H e))
-        (λ n.
-        ⊎_elim
-        (λ l. inr (inl (⊎_elim (λ z. z) (λ z. absurd (start_not_inside g h G H l z)) (cases_lt g.last h.first))))
-        (λ l. inr (inr (⊎_elim (λ z. z) (λ z. absurd (start_not_inside h g H G (omega arith) z)) (cases_lt h.last g.first))))
-        (cases_lt g.first h.first))
+        (λ n. inr (grind (arith, start_not_inside g h G H, start_not_inside h g H G)))
         (cases_eq g.first h.first)
 
     run : ℕ → Gap
@@ -169,19 +114,11 @@ module _ {N : Type 0} (v : N → ℕ) where
     pub at_start : (s : ℕ) → ((x : ℕ) → suc x ≡ s → Free v lo hi used x → ⊥) → (g : Gap) → gap_at v lo hi used s ≡ Some g → IsGap v lo hi used g
     unfolding run test
     at_start s low g e =
-        ⊎_elim
-        (λ t.
-        let p = and_parts (leb lo s) (leb s hi && clear v used s) t in
+        let t = cond_some (test s) (run s) g e in
+        let p = and_parts (leb lo s) (leb s hi && clear v used s) t.0 in
         let q = and_parts (leb s hi) (clear v used s) p.1 in
-        let f : gap_at v lo hi used s ≡ Some (run s) = cond-true (test s) (Some (run s)) None t in
-        let same : run s ≡ g = cc in
         let P : Gap → Type 0 = λ y. IsGap v lo hi used y in
-        subst P same (run_gap s (leb-true lo s p.0) (leb-true s hi q.0) (clear_true used s q.1) low))
-        (λ t.
-        let f : gap_at v lo hi used s ≡ None = cond-false (test s) (Some (run s)) None t in
-        let z : ◌≡◌ {A = ℕ} 0 1 = cc in
-        absurd (omega arith))
-        (cases_Bool (test s))
+        subst P t.1 (run_gap s (leb-true lo s p.0) (leb-true s hi q.0) (clear_true used s q.1) low)
 
     pub at_gap : (s : ℕ) (h : Gap) → IsGap v lo hi used h → h.first ≡ s → gap_at v lo hi used s ≡ Some h
     unfolding run test
@@ -192,88 +129,44 @@ module _ {N : Type 0} (v : N → ℕ) where
         let b = f.below in
         let P : ℕ → Type 0 = λ y. Untouched v used y in
         let u : Untouched v used s = subst P e f.clear in
-        let t : test s ≡ true = and_from (leb lo s) (leb s hi && clear v used s) (le-leb lo s (omega arith)) (and_from (leb s hi) (clear v used s) (le-leb s hi (omega arith)) (clear_from used s u)) in
+        let t : test s ≡ true = grind (arith, nat_tests, clear_from used s u) in
         let R : IsGap v lo hi used (run s) = run_gap s (omega arith) (omega arith) u (λ x k. H.low x (k ∙ sym e)) in
         cond-true (test s) (Some (run s)) None t ∙ ap (λ y. Some y) (one_start (run s) h R H (sym e))
 
-    module _ (over : Gap → Gap → Bool) (O : Order over) (n : ℕ) (pos : 0 < n) where
+    module _ (over : Gap → Gap → Bool) (O : Order over) (n : ℕ) where
       -- a is the best of the gaps in S that hold n
       BestIn : (Gap → Type 0) → Option Gap → Type 0
       BestIn S None = (h : Gap) → S h → IsGap v lo hi used h → Fits n h → ⊥
       BestIn S (Some g) = IsGap v lo hi used g × Fits n g × ((h : Gap) → S h → IsGap v lo hi used h → Fits n h → (h ≡ g) ⊎ (over g h ≡ true))
 
       roomy_true : (g : Gap) → roomy n g ≡ true → Fits n g
-      roomy_true g e =
-          let p = and_parts (leb g.first g.last) (leb (n - 1) (g.last - g.first)) e in
-          let a = leb-true g.first g.last p.0 in
-          let b = leb-true (n - 1) (g.last - g.first) p.1 in
-          omega arith
+      roomy_true g e = grind (arith, nat_tests)
 
       roomy_false : (g : Gap) → roomy n g ≡ false → g.first ≤ g.last → Fits n g → ⊥
-      roomy_false g e s f =
-          ⊎_elim
-          (λ a. let b = leb-false g.first g.last a in omega arith)
-          (λ a. let b = leb-false (n - 1) (g.last - g.first) a in omega arith)
-          (and_cases (leb g.first g.last) (leb (n - 1) (g.last - g.first)) e)
+      roomy_false g e s f = grind (arith, nat_tests)
 
       -- one more start
       step : (S : Gap → Type 0) (s : ℕ) (a o : Option Gap) → ((g : Gap) → o ≡ Some g → IsGap v lo hi used g) → ((h : Gap) → IsGap v lo hi used h → h.first ≡ s → o ≡ Some h) →
           BestIn S a → BestIn (λ h. S h ⊎ (h.first ≡ s)) (better over n a o)
       unfolding BestIn
       step S s None None from to b =
-          λ h m H f. ⊎_elim (λ x. b h x H f) (λ x. let e = to h H x in let z : ◌≡◌ {A = ℕ} 0 1 = cc in omega arith) m
+          λ h m H f. grind (arith, b h, to h H)
       step S s (Some g) None from to b =
-          (b.0, b.1, λ h m H f. ⊎_elim (λ x. b.2 h x H f) (λ x. let e = to h H x in let z : ◌≡◌ {A = ℕ} 0 1 = cc in absurd (omega arith)) m)
+          (b.0, b.1, λ h m H f. grind (arith, b.2 h, to h H))
       step S s None (Some g) from to b =
           let G = from g refl in
           let P : Option Gap → Type 0 = λ y. BestIn (λ h. S h ⊎ (h.first ≡ s)) y in
           cond_both (roomy n g) (Some g) None P
-          (λ t. (G, roomy_true g t, λ h m H f. ⊎_elim (λ x. absurd (b h x H f)) (λ x. inl (let e = to h H x in cc)) m))
-          (λ t h m H f. ⊎_elim
-          (λ x. b h x H f)
-          (λ x. let e = to h H x in let same : h ≡ g = cc in let Q : Gap → Type 0 = λ y. Fits n y in roomy_false g t G.some (subst Q same f))
-          m)
+          (λ t. (G, roomy_true g t, λ h m H f. grind (arith, b h, to h H)))
+          (λ t h m H f. grind (arith, b h, to h H, roomy_false g t))
       step S s (Some c) (Some g) from to b =
           let G = from g refl in
           let P : Option Gap → Type 0 = λ y. BestIn (λ h. S h ⊎ (h.first ≡ s)) y in
           cond_both (roomy n g) (cond (over g c) (Some g) (Some c)) (Some c) P
           (λ t. cond_both (over g c) (Some g) (Some c) P
-          (λ k. (
-            G,
-            roomy_true g t,
-            λ h m H f. ⊎_elim
-                (λ x. inr (⊎_elim
-                (λ e. ap (λ y. over g y) e ∙ k)
-                (λ e. O.onwards g c h k e)
-                (b.2 h x H f)))
-                (λ x. inl (let e = to h H x in cc))
-                m,
-          ))
-          (λ k. (
-            b.0,
-            b.1,
-            λ h m H f. ⊎_elim
-                (λ x. b.2 h x H f)
-                (λ x.
-                let e = to h H x in
-                let same : h ≡ g = cc in
-                ⊎_elim
-                (λ d. inl (same ∙ d))
-                (λ d. inr (⊎_elim
-                (λ w. absurd (both_ways (over g c) k w))
-                (λ w. ap (λ y. over c y) same ∙ w)
-                (O.total g c G.some b.0.some d)))
-                (same_or_apart g c G b.0))
-                m,
-          )))
-          (λ t. (
-            b.0,
-            b.1,
-            λ h m H f. ⊎_elim
-                (λ x. b.2 h x H f)
-                (λ x. let e = to h H x in let same : h ≡ g = cc in let Q : Gap → Type 0 = λ y. Fits n y in absurd (roomy_false g t G.some (subst Q same f)))
-                m,
-          ))
+          (λ k. (G, roomy_true g t, λ h m H f. grind (arith, b.2 h, to h H, O.onwards g c h)))
+          (λ k. (b.0, b.1, λ h m H f. grind (arith, b.2 h, to h H, same_or_apart g c G b.0, O.total g c G.some b.0.some))))
+          (λ t. (b.0, b.1, λ h m H f. grind (arith, b.2 h, to h H, roomy_false g t)))
 
       wider : (S R : Gap → Type 0) → ((h : Gap) → R h → IsGap v lo hi used h → S h) → (a : Option Gap) → BestIn S a → BestIn R a
       unfolding BestIn
@@ -283,7 +176,7 @@ module _ {N : Type 0} (v : N → ℕ) where
       steps : (rs : List (Range N)) (S : Gap → Type 0) (a : Option Gap) → ((x : ℕ) → Untouched v used x → Untouched v rs x) → BestIn S a →
           BestIn (λ h. S h ⊎ Behind rs h) (best_of v over lo hi used n rs a)
       unfolding Behind
-      steps [] S a sub b = wider S (λ h. S h ⊎ Behind [] h) (λ h x _. ⊎_elim (λ y. y) (λ y. absurd y) x) a b
+      steps [] S a sub b = wider S (λ h. S h ⊎ Behind [] h) (λ h x _. grind arith) a b
       steps (r ∷ rs) S a sub b =
           let s : ℕ = v r.first + r.count in
           let T : Gap → Type 0 = λ h. S h ⊎ ((0 < r.count) × (h.first ≡ s)) in
@@ -292,16 +185,11 @@ module _ {N : Type 0} (v : N → ℕ) where
           cond_both (ltb 0 r.count) (better over n a (gap_at v lo hi used s)) a P
           (λ t.
           let c = ltb-true 0 r.count t in
-          wider (λ h. S h ⊎ (h.first ≡ s)) T (λ h x _. ⊎_elim (λ y. inl y) (λ y. inr y.1) x) _
-          (step S s a (gap_at v lo hi used s)
-          (at_start s (λ x e f. (sub x f.clear).0 (omega arith, omega arith)))
-          (λ h H e. at_gap s h H e)
-          b))
-          (λ t.
-          let c = ltb-false 0 r.count t in
-          wider S T (λ h x _. ⊎_elim (λ y. y) (λ y. absurd (let d = y.0 in omega arith)) x) a b) in
+          wider (λ h. S h ⊎ (h.first ≡ s)) T (λ h x _. grind arith) _
+          (step S s a (gap_at v lo hi used s) (at_start s (λ x e f. (sub x f.clear).0 (omega arith, omega arith))) (at_gap s) b))
+          (λ t. let c = ltb-false 0 r.count t in wider S T (λ h x _. grind arith) a b) in
           wider (λ h. T h ⊎ Behind rs h) (λ h. S h ⊎ Behind (r ∷ rs) h)
-          (λ h x _. ⊎_elim (λ y. inl (inl y)) (λ y. ⊎_elim (λ z. inl (inr z)) (λ z. inr z) y) x)
+          (λ h x _. grind arith)
           _
           (steps rs T (best_behind v over lo hi used n r a) (λ x u. (sub x u).1) one)
 
@@ -312,7 +200,7 @@ module _ {N : Type 0} (v : N → ℕ) where
           let a = f.above in
           let b = f.below in
           ⊎_elim
-          (λ e. inl e)
+          inl
           (λ e. inr (behind_from used (h.first - 1) h (omega arith)
           (λ u. H.low (h.first - 1) (omega arith) (record { above = omega arith; below = omega arith; clear = u }))
           f.clear))
@@ -322,12 +210,12 @@ module _ {N : Type 0} (v : N → ℕ) where
       unfolding BestIn
       best_right =
           wider (λ h. (⊥ ⊎ (h.first ≡ lo)) ⊎ Behind used h) (λ h. Unit {0})
-          (λ h _ H. ⊎_elim (λ e. inl (inr e)) (λ e. inr e) (every h H))
+          (λ h _ H. ⊎_elim (λ e. inl (inr e)) inr (every h H))
           (best_gap v over lo hi used n)
           (steps used (λ h. ⊥ ⊎ (h.first ≡ lo)) (better over n None (gap_at v lo hi used lo)) (λ x u. u)
           (step (λ h. ⊥) lo None (gap_at v lo hi used lo)
           (at_start lo (λ x e f. let a = f.above in omega arith))
-          (λ h H e. at_gap lo h H e)
+          (at_gap lo)
           (λ h x H f. x)))
 
       -- none exactly where no gap holds n, else the best gap
@@ -344,15 +232,4 @@ module _ {N : Type 0} (v : N → ℕ) where
 
       pub best_one : (g h : Gap) → Best v over lo hi used n g → Best v over lo hi used n h → g ≡ h
       best_one g h a b =
-          ⊎_elim (λ p. sym p)
-          (λ p. ⊎_elim (λ q. q) (λ q. absurd (O.one_way g h p q)) (b.best g a.gap a.fits))
-          (a.best h b.gap b.fits)
-
-      pub some_place : (g : Gap) → best_gap v over lo hi used n ≡ Some g → (n - 1 ≤ g.last) × (g.last ≤ hi) × ((g.last - (n - 1)) + n ≡ suc g.last)
-      some_place g e =
-          let b = some_right g e in
-          let G = b.gap in
-          let f = b.fits in
-          let s = G.some in
-          let h = (G.free g.last s (omega arith)).below in
-          (omega arith, h, omega arith)
+          grind (arith, a.best h b.gap b.fits, b.best g a.gap a.fits, O.one_way g h)

@@ -1,13 +1,14 @@
 // The chooser: where n numbers go among numbers of which some are in use.
 #![tactic(auto)]
 
-mod choice;
-mod finding;
 mod gap;
+mod laws;
 mod number;
+mod space;
 #[cfg(test)]
 mod tests;
 
-pub use choice::{choose, facts};
 pub use gap::{Gap, Range};
+pub use laws::facts;
 pub use number::Number;
+pub use space::Space;

@@ -11,7 +11,10 @@ pub trait Number: Sized {
 
     ghost top: { ℕ };
 
-    ghost full: { KindOf };
+    ghost FULL: { KindOf };
+
+    // The refusal where no gap of these numbers holds what is asked.
+    const FULL: FaultKind;
 
     // The number's value.
     fn to_u64(&self) -> u64
@@ -21,10 +24,6 @@ pub trait Number: Sized {
     fn of_u64(n: u64) -> Self
         requires { n < top }
         ensures { value result ≡ n };
-
-    // The refusal where no gap of these numbers holds what is asked.
-    fn when_full() -> FaultKind
-        ensures { result ≡ full };
 }
 
 impl Number for Frame {
@@ -32,7 +31,9 @@ impl Number for Frame {
 
     ghost top = { 2 ^ 32 };
 
-    ghost full = { NoFrames };
+    ghost FULL = { NoFrames };
+
+    const FULL: FaultKind = FaultKind::NoFrames;
 
     fn to_u64(&self) -> u64 {
         self.0 as u64
@@ -41,10 +42,6 @@ impl Number for Frame {
     fn of_u64(n: u64) -> Frame {
         Frame(n as u32)
     }
-
-    fn when_full() -> FaultKind {
-        FaultKind::NoFrames
-    }
 }
 
 impl Number for DevicePage {
@@ -52,7 +49,9 @@ impl Number for DevicePage {
 
     ghost top = { 2 ^ 64 };
 
-    ghost full = { NoPages };
+    ghost FULL = { NoPages };
+
+    const FULL: FaultKind = FaultKind::NoPages;
 
     fn to_u64(&self) -> u64 {
         self.0
@@ -60,9 +59,5 @@ impl Number for DevicePage {
 
     fn of_u64(n: u64) -> DevicePage {
         DevicePage(n)
-    }
-
-    fn when_full() -> FaultKind {
-        FaultKind::NoPages
     }
 }

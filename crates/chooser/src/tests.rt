@@ -1,28 +1,26 @@
 // Worked choices.
-use crate::choice::choose;
 use crate::gap::Range;
-use std::test::Fail;
-use units::{DevicePage, Frame};
+use crate::space::Space;
+use units::{DevicePage, Fault, FaultKind, Frame};
 
 // Of the gaps 1 to 2 and 5 to 6 the higher is taken.
 #[test]
-fn takes_the_higher_of_equal_gaps(rt: HostRuntime) -> Result<(), Fail> {
+fn takes_the_higher_of_equal_gaps(rt: HostRuntime) {
     let used = [Range {
         first: DevicePage(3),
         count: 2,
     }];
-    match choose(&DevicePage(1), &DevicePage(6), &used, 1) {
-        Ok(page) => {
-            assert_eq!(rt; page.0, 6);
-            Ok(())
-        },
-        Err(_) => Err(Fail::new("there is room")),
-    }
+    let space = Space {
+        lo: DevicePage(1),
+        hi: DevicePage(6),
+        used: &used,
+    };
+    assert_eq!(rt; space.choose(1), Ok(DevicePage(6)));
 }
 
 // Of the gaps 1 to 3 and 7 to 8 the smaller is taken.
 #[test]
-fn takes_the_smaller_gap(rt: HostRuntime) -> Result<(), Fail> {
+fn takes_the_smaller_gap(rt: HostRuntime) {
     let used = [
         Range {
             first: DevicePage(6),
@@ -33,30 +31,27 @@ fn takes_the_smaller_gap(rt: HostRuntime) -> Result<(), Fail> {
             count: 2,
         },
     ];
-    match choose(&DevicePage(1), &DevicePage(8), &used, 1) {
-        Ok(page) => {
-            assert_eq!(rt; page.0, 8);
-            Ok(())
-        },
-        Err(_) => Err(Fail::new("there is room")),
-    }
+    let space = Space {
+        lo: DevicePage(1),
+        hi: DevicePage(8),
+        used: &used,
+    };
+    assert_eq!(rt; space.choose(1), Ok(DevicePage(8)));
 }
 
 // No gap among 1 to 3 holds 4, neither of pages nor of frames.
 #[test]
-fn refuses_where_no_gap_holds_n(rt: HostRuntime) -> Result<(), Fail> {
-    match choose(&DevicePage(1), &DevicePage(3), &[], 4) {
-        Ok(_) => return Err(Fail::new("there is no room")),
-        Err(fault) => {
-            assert_eq!(rt; fault.kind.number(), 10);
-            assert_eq!(rt; fault.place, 4);
-        }
-    }
-    match choose(&Frame(1), &Frame(3), &[], 4) {
-        Ok(_) => Err(Fail::new("there is no room")),
-        Err(fault) => {
-            assert_eq!(rt; fault.kind.number(), 9);
-            Ok(())
-        },
-    }
+fn refuses_where_no_gap_holds_n(rt: HostRuntime) {
+    let pages = Space {
+        lo: DevicePage(1),
+        hi: DevicePage(3),
+        used: &[],
+    };
+    assert_eq!(rt; pages.choose(4), Err(FaultKind::NoPages.at(4)));
+    let frames = Space {
+        lo: Frame(1),
+        hi: Frame(3),
+        used: &[],
+    };
+    assert_eq!(rt; frames.choose(4), Err(FaultKind::NoFrames.at(4)));
 }

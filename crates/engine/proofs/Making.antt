@@ -1,4 +1,5 @@
 -- A call on the engine, put together from its checks and what it did.
+use Rattle.mapper.specs.declared.laws.Meaning.{Ghosts as Meaning}
 use Rattle.std.proofs.Common.{◌≡◌, ℕ, ◌+◌, ◌-◌, ◌^◌, ◌<◌, ◌≤◌, min, Bool, true, false, cond, ◌&&◌, eqb, ltb, List, length, get_or, set, Some, sym, refl, ap, ◌∙◌, subst, inl, inr, arith, get_or-set_other, get_or-set_same}
 use mathlib.Core.Path.{fun_ext}
 use Rattle.std.proofs.lemmas.Bool.{cases_lt, cases_eq, le-ltb, cond-true, cond-false, and_from, eq-eqb, ne_eqb}
@@ -14,6 +15,7 @@ use Rattle.meaning.specs.Checks.{Verdict, fine, errs, ◌then◌, is_card, fault
 use Rattle.meaning.specs.Effects.{State, answer, answered, noted}
 use Rattle.mapper.specs.Tasks.{Task}
 use Rattle.mapper.specs.Called.{here}
+use Rattle.engine.specs.declared.Engine.{Engine}
 use Rattle.engine.specs.Made.{blank, reports_of, Made, MadeRead}
 
 -- Reports -------------------------------------------------------------------------------------------------
@@ -64,30 +66,28 @@ noted_set l c v k f b lt e =
 
 -- The CPU's accesses --------------------------------------------------------------------------------------
 
-module _ {M : Type 0} (K : Kind) (sound : M → Type 0) (setup : M → Setup) (opened : M → List Mapping) (leaves : M → Task → M → Type 0)
-    (m : M) (r : List Report) (x : List ℕ) (s : sound m) where
-  pub read_refused : (a n : ℕ) (t : List ℕ) (f : Fault) → cpu_checks (here K setup m x) (opened m) a n (length t) ≡ errs f
-      → MadeRead K sound setup opened leaves m m r r x t t (cpu_read a n t) (fails f)
+module _ {M : Type 0} (I : Meaning M) (e : Engine M) (x : List ℕ) where
+  pub read_refused : (a n : ℕ) (t : List ℕ) (f : Fault) → cpu_checks (here I e.mapper x) (I.opened e.mapper) a n (length t) ≡ errs f
+      → MadeRead I e e x t t (cpu_read a n t) (fails f)
   unfolding verdict
-  read_refused a n t f h = record { made = record { stays = s; fixed = refl; answers = rw h refl; becomes = rw h refl; left = refl }; buffer = refl }
+  read_refused a n t f h = record { made = record { fixed = refl; answers = rw h refl; becomes = rw h refl; left = refl }; buffer = refl }
 
-  pub read_done : (a n : ℕ) (t t' : List ℕ) → cpu_checks (here K setup m x) (opened m) a n (length t) ≡ fine → bytes_of t' ≡ read_into t n a (bytes_of x)
-      → MadeRead K sound setup opened leaves m m r r x t t' (cpu_read a n t) (bytes (bytes_of t'))
+  pub read_done : (a n : ℕ) (t t' : List ℕ) → cpu_checks (here I e.mapper x) (I.opened e.mapper) a n (length t) ≡ fine → bytes_of t' ≡ read_into t n a (bytes_of x)
+      → MadeRead I e e x t t' (cpu_read a n t) (bytes (bytes_of t'))
   unfolding verdict
-  read_done a n t t' h e = record { made = record { stays = s; fixed = refl; answers = rw h (ap bytes e); becomes = rw h refl; left = refl }; buffer = refl }
+  read_done a n t t' h b = record { made = record { fixed = refl; answers = rw h (ap bytes b); becomes = rw h refl; left = refl }; buffer = refl }
 
-  pub write_refused : (a : ℕ) (t : List ℕ) (f : Fault) → cpu_checks (here K setup m x) (opened m) a (length t) (length t) ≡ errs f
-      → Made K sound setup opened leaves m m r r x x (cpu_write a t) (fails f)
+  pub write_refused : (a : ℕ) (t : List ℕ) (f : Fault) → cpu_checks (here I e.mapper x) (I.opened e.mapper) a (length t) (length t) ≡ errs f
+      → Made I e e x x (cpu_write a t) (fails f)
   unfolding verdict
-  write_refused a t f h = record { stays = s; fixed = refl; answers = rw h refl; becomes = rw h refl; left = refl }
+  write_refused a t f h = record { fixed = refl; answers = rw h refl; becomes = rw h refl; left = refl }
 
-  pub write_done : (x' : List ℕ) (a : ℕ) (t : List ℕ) → cpu_checks (here K setup m x) (opened m) a (length t) (length t) ≡ fine → bytes_of x' ≡ paste a t (bytes_of x)
-      → Made K sound setup opened leaves m m r r x x' (cpu_write a t) done
+  pub write_done : (x' : List ℕ) (a : ℕ) (t : List ℕ) → cpu_checks (here I e.mapper x) (I.opened e.mapper) a (length t) (length t) ≡ fine → bytes_of x' ≡ paste a t (bytes_of x)
+      → Made I e e x x' (cpu_write a t) done
   unfolding verdict
-  write_done x' a t h e = record {
-    stays = s;
+  write_done x' a t h b = record {
     fixed = refl;
     answers = rw h refl;
-    becomes = rw h (ap (λ (z : Bytes). let q : State = record { opens = opened m; memory = z; reports = reports_of r } in q) e);
+    becomes = rw h (ap (λ (z : Bytes). let q : State = record { opens = I.opened e.mapper; memory = z; reports = reports_of e.reports } in q) b);
     left = refl;
   }

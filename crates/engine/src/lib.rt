@@ -2,7 +2,6 @@
 #![tactic(auto)]
 
 ghost use Rattle.std.specs.Prelude.{◌≡◌, ℕ, ◌+◌, ◌-◌, ◌*◌, ◌^◌, ◌<◌, ◌≤◌, min, Bool, true, false, List, length};
-ghost use Rattle.units.specs.declared.mapping.Sync.TheVariants.{ForCpu, ForCard};
 ghost use Rattle.units.specs.Faults.{is_block_kind};
 ghost use Rattle.meaning.specs.Calls.{map, unmap, sync, cpu_read, cpu_write, card_read, card_write, report};
 ghost use Rattle.meaning.specs.Checks.{cpu_checks, errs, fine};
@@ -21,27 +20,21 @@ pub struct Engine<M: Mapper> {
     pub reports: [Report; 4],
 }
 
-// One more, up to 4,294,967,295, where a count stops.
-fn one_more(count: u32) -> u32
-    ensures { result ≡ min (count + 1) (2 ^ 32 - 1) }
-{
-    if count < u32::MAX { count + 1 } else { count }
-}
-
-// A block adds one to its card's count and becomes the card's latest; no other fault does.
+// A block adds one to its card's count, which stops at 4,294,967,295, and becomes the card's latest; no other fault does.
 fn note(reports: &mut [Report], card: Card, device: DeviceAddress, fault: Fault)
     requires { is_block_kind fault.kind ≡ true → card.0 < length reports.old }
     ensures { reports_of reports.new ≡ noted card.0 device.0 (errs fault) (reports_of reports.old) }
 {
     if fault.kind.is_block() {
         let at = card.0 as usize;
-        let count = one_more(reports[at].count);
-        let latest = Some(Block {
-            device,
-            kind: fault.kind,
-            level: fault.place,
-        });
-        reports[at] = Report { count, latest };
+        reports[at] = Report {
+            count: reports[at].count.saturating_add(1),
+            latest: Some(Block {
+                device,
+                kind: fault.kind,
+                level: fault.place,
+            }),
+        };
     }
 }
 
@@ -62,8 +55,7 @@ impl<M: Mapper> Engine<M> {
 
     // Opens a mapping for a card, and answers its device address.
     pub fn map(&mut self, memory: &mut [u8], request: Request) -> Result<DeviceAddress, Fault>
-        requires { M.sound self.old.mapper }
-        ensures { Made M.kind M.sound M.setup M.opened M.leaves self.old.mapper self.new.mapper self.old.reports self.new.reports memory.old memory.new (map request) (tells_at result) }
+        ensures { Made M.Meaning self.old self.new memory.old memory.new (map request) (tells_at result) }
     {
         self.mapper.map(memory, request)
     }
@@ -77,36 +69,22 @@ impl<M: Mapper> Engine<M> {
         device: DeviceAddress,
         length: u32,
     ) -> Result<(), Fault>
-        requires { M.sound self.old.mapper }
-        ensures { Made M.kind M.sound M.setup M.opened M.leaves self.old.mapper self.new.mapper self.old.reports self.new.reports memory.old memory.new (unmap card.0 direction device.0 length) (tells_done result) }
+        ensures { Made M.Meaning self.old self.new memory.old memory.new (unmap card.0 direction device.0 length) (tells_done result) }
     {
         self.mapper.unmap(memory, card, direction, device, length)
     }
 
-    // Hands a mapped buffer to the CPU.
-    pub fn sync_for_cpu(
+    // Hands a mapped buffer to the CPU, or back to the card.
+    pub fn sync(
         &mut self,
         memory: &mut [u8],
+        call: Sync,
         card: Card,
         device: DeviceAddress,
     ) -> Result<(), Fault>
-        requires { M.sound self.old.mapper }
-        ensures { Made M.kind M.sound M.setup M.opened M.leaves self.old.mapper self.new.mapper self.old.reports self.new.reports memory.old memory.new (sync ForCpu card.0 device.0) (tells_done result) }
+        ensures { Made M.Meaning self.old self.new memory.old memory.new (sync call card.0 device.0) (tells_done result) }
     {
-        self.mapper.sync(memory, Sync::ForCpu, card, device)
-    }
-
-    // Hands a mapped buffer back to the card.
-    pub fn sync_for_card(
-        &mut self,
-        memory: &mut [u8],
-        card: Card,
-        device: DeviceAddress,
-    ) -> Result<(), Fault>
-        requires { M.sound self.old.mapper }
-        ensures { Made M.kind M.sound M.setup M.opened M.leaves self.old.mapper self.new.mapper self.old.reports self.new.reports memory.old memory.new (sync ForCard card.0 device.0) (tells_done result) }
-    {
-        self.mapper.sync(memory, Sync::ForCard, card, device)
+        self.mapper.sync(memory, call, card, device)
     }
 
     // Reads for a card; a block is counted.
@@ -118,8 +96,7 @@ impl<M: Mapper> Engine<M> {
         count: usize,
         out: &mut [u8],
     ) -> Result<(), Fault>
-        requires { M.sound self.old.mapper }
-        ensures { MadeRead M.kind M.sound M.setup M.opened M.leaves self.old.mapper self.new.mapper self.old.reports self.new.reports memory.now out.old out.new (card_read card.0 device.0 count out.old) (tells_bytes result out.new) }
+        ensures { MadeRead M.Meaning self.old self.new memory.now out.old out.new (card_read card.0 device.0 count out.old) (tells_bytes result out.new) }
     {
         let answer = self.mapper.card_read(memory, card, device, count, out);
         if let Err(fault) = answer {
@@ -136,8 +113,7 @@ impl<M: Mapper> Engine<M> {
         device: DeviceAddress,
         bytes: &[u8],
     ) -> Result<(), Fault>
-        requires { M.sound self.old.mapper }
-        ensures { Made M.kind M.sound M.setup M.opened M.leaves self.old.mapper self.new.mapper self.old.reports self.new.reports memory.old memory.new (card_write card.0 device.0 bytes.now) (tells_done result) }
+        ensures { Made M.Meaning self.old self.new memory.old memory.new (card_write card.0 device.0 bytes.now) (tells_done result) }
     {
         let answer = self.mapper.card_write(memory, card, device, bytes);
         if let Err(fault) = answer {
@@ -148,8 +124,7 @@ impl<M: Mapper> Engine<M> {
 
     // What an access of the CPU checks: length, memory, reserved frames, buffers that a card holds.
     fn reaches(&self, memory: &[u8], address: u32, count: usize, room: usize) -> Result<(), Fault>
-        requires { M.sound self.now.mapper }
-        ensures { cpu_checks (here M.kind M.setup self.now.mapper memory.now) (M.opened self.now.mapper) address count room ≡ passes result fine }
+        ensures { cpu_checks (here M.Meaning self.now.mapper memory.now) (M.opened self.now.mapper) address count room ≡ passes result fine }
     {
         if count == 0 || count > 64 || count > room {
             return Err(FaultKind::WrongLength.at(count as u64));
@@ -182,8 +157,7 @@ impl<M: Mapper> Engine<M> {
         count: usize,
         out: &mut [u8],
     ) -> Result<(), Fault>
-        requires { M.sound self.now.mapper }
-        ensures { MadeRead M.kind M.sound M.setup M.opened M.leaves self.now.mapper self.now.mapper self.now.reports self.now.reports memory.now out.old out.new (cpu_read address count out.old) (tells_bytes result out.new) }
+        ensures { MadeRead M.Meaning self.now self.now memory.now out.old out.new (cpu_read address count out.old) (tells_bytes result out.new) }
     {
         self.reaches(memory, address, count, out.len())?;
         read_bytes(memory, address as usize, count, out);
@@ -192,8 +166,7 @@ impl<M: Mapper> Engine<M> {
 
     // Writes 1 to 64 bytes for the CPU.
     pub fn cpu_write(&self, memory: &mut [u8], address: u32, bytes: &[u8]) -> Result<(), Fault>
-        requires { M.sound self.now.mapper }
-        ensures { Made M.kind M.sound M.setup M.opened M.leaves self.now.mapper self.now.mapper self.now.reports self.now.reports memory.old memory.new (cpu_write address bytes.now) (tells_done result) }
+        ensures { Made M.Meaning self.now self.now memory.old memory.new (cpu_write address bytes.now) (tells_done result) }
     {
         self.reaches(memory, address, bytes.len(), bytes.len())?;
         write_bytes(memory, address as usize, bytes);
@@ -202,8 +175,7 @@ impl<M: Mapper> Engine<M> {
 
     // How often a card was blocked, and its latest block.
     pub fn report(&self, card: Card) -> Result<Report, Fault>
-        requires { M.sound self.now.mapper }
-        ensures { (x : List ℕ) → tells_report result ≡ answer (here M.kind M.setup self.now.mapper x) (state (M.opened self.now.mapper) x self.now.reports) (report card.0) }
+        ensures { (x : List ℕ) → tells_report result ≡ answer (here M.Meaning self.now.mapper x) (state (M.opened self.now.mapper) x self.now.reports) (report card.0) }
     {
         if card.0 >= self.mapper.cards() {
             return Err(FaultKind::NoCard.at(card.0 as u64));

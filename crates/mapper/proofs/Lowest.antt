@@ -1,31 +1,25 @@
--- Steps of a check that looks for the lowest number that is such.
-use Rattle.std.proofs.Common.{◌≡◌, ℕ, suc, ◌+◌, ◌-◌, ◌<◌, ◌≤◌, Bool, true, false, cond, refl, ap, arith}
+-- The first number of a range that is such, as the check that looks for the lowest.
+use Rattle.std.proofs.Common.{◌≡◌, ℕ, zero, suc, ◌+◌, Bool, true, false, cond, Some, None, Option, refl, ap, ◌∙◌, add-one}
+use Rattle.std.specs.Prelude.{option_map}
+use Rattle.std.specs.List.{find, range_with_len}
 use Rattle.units.specs.declared.fault.FaultKind.{FaultKind}
-use Rattle.meaning.specs.Checks.{fine, fault, none_of}
+use Rattle.meaning.specs.Checks.{fault, none_of}
+use Rattle.meaning.specs.Told.{lowest}
 
-module _ (k : FaultKind) (such : ℕ → Bool) where
-  step : (a n : ℕ) (b : Bool) → such a ≡ b → none_of k such a (suc n) ≡ cond b (fault k a) (none_of k such (suc a) n)
-  unfolding none_of
-  step a n b e = ap (λ (z : Bool). cond z (fault k a) (none_of k such (suc a) n)) e
+pub lowest_found : (k : FaultKind) (such : ℕ → Bool) (a n : ℕ) → lowest k (find such (range_with_len a n)) ≡ none_of k such a n
+unfolding none_of
+lowest_found k such a zero = refl
+lowest_found k such a (suc n) = go (such a) (lowest_found k such (a + 1) n ∙ ap (λ (i : ℕ). none_of k such i n) (add-one a))
+  where
+    go : (b : Bool) → lowest k (find such (range_with_len (a + 1) n)) ≡ none_of k such (suc a) n
+        → lowest k (cond b (Some a) (find such (range_with_len (a + 1) n))) ≡ cond b (fault k a) (none_of k such (suc a) n)
+    go true later = refl
+    go false later = later
 
-  none : (a : ℕ) → none_of k such a 0 ≡ fine
-  unfolding none_of
-  none a = refl
-
-  -- from a on as from a + i on: the loop has passed i numbers
-  abbrev pub Past : ℕ → ℕ → ℕ → Type 0
-  Past a n i = none_of k such a n ≡ none_of k such (a + i) (n - i)
-
-  pub passed : (a n i : ℕ) → Past a n i → i < n → such (a + i) ≡ false → Past a n (i + 1)
-  passed a n i h l e =
-      let p : n - i ≡ suc (n - (i + 1)) = omega arith in
-      let q : suc (a + i) ≡ a + (i + 1) = omega arith in
-      let s = step (a + i) (n - (i + 1)) false e in cc
-
-  pub here : (a n i : ℕ) → Past a n i → i < n → such (a + i) ≡ true → fault k (a + i) ≡ none_of k such a n
-  here a n i h l e =
-      let p : n - i ≡ suc (n - (i + 1)) = omega arith in
-      let s = step (a + i) (n - (i + 1)) true e in cc
-
-  pub nowhere : (a n i : ℕ) → Past a n i → n ≤ i → fine ≡ none_of k such a n
-  nowhere a n i h l = let p : n - i ≡ 0 = omega arith in let s = none (a + i) in cc
+-- a search that gave r, where r is the first that is such
+pub lowest_of : (k : FaultKind) (such : ℕ → Bool) (a n : ℕ) (r : Option ℕ) → option_map (λ x. x) r ≡ find such (range_with_len a n) → lowest k r ≡ none_of k such a n
+lowest_of k such a n r e = ap (lowest k) (same r ∙ e) ∙ lowest_found k such a n
+  where
+    same : (o : Option ℕ) → o ≡ option_map (λ x. x) o
+    same None = refl
+    same (Some x) = refl

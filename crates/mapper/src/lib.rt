@@ -1,7 +1,7 @@
 // The mapper: its meaning, its laws, and the calls, with the checks that every mapper shares.
 #![tactic(auto)]
 
-ghost use Rattle.std.specs.Prelude.{◌≡◌, ℕ, ◌+◌, ◌*◌, ◌/◌, ◌%◌, ◌^◌, ◌<◌, ◌≤◌, Bool, true, false, List, [], length};
+ghost use Rattle.std.specs.Prelude.{◌≡◌, ℕ, ◌+◌, ◌*◌, ◌/◌, ◌%◌, ◌^◌, ◌<◌, ◌≤◌, Bool, true, false, List, [], Option, length};
 ghost use Rattle.units.specs.declared.mapping.Mapping.{Mapping as Opened};
 ghost use Rattle.units.specs.declared.mapping.Reach.{Reach as Reached};
 ghost use Rattle.meaning.specs.Mappings.{find, held, reach_of};
@@ -15,89 +15,47 @@ ghost use Rattle.units.specs.declared.fault.FaultKind.TheVariants.{ReservedFrame
 ghost use Rattle.mapper.specs.Tasks.{Task};
 ghost use Rattle.mapper.specs.Called.{here, seen, Called, Read, Translated, Targeted, Judged};
 
+mod laws;
+
+pub use laws::Meaning;
 use meaning::{read_bytes, write_bytes};
 use units::{
-    Access, Card, DeviceAddress, DevicePage, Fault, FaultKind, Frame, Mapping, Reach, Request, Sync,
+    Access, Card, DeviceAddress, DevicePage, Direction, Fault, FaultKind, Frame, Mapping, Reach,
+    Request, Sync,
 };
 
-pub trait Mapper {
-    // What set-up makes true and every call keeps.
-    ghost sound: { Self → Type 0 };
-
-    ghost setup: { Self → Setup };
-
-    ghost opened: { Self → List Opened };
-
-    // What a card reaches at a device page, worked out from what the mapper holds now.
-    ghost reach: { Self → ℕ → ℕ → Reached };
-
-    // Reserved frames, choice and block level, as functions of set-up and open mappings.
-    ghost kind: { Kind };
-
-    // What an accepted call leaves of the parts that the meaning does not show.
-    ghost leaves: { Self → Task → Self → Type 0 };
-
-    // The lists of open mappings that a set-up and calls can lead to, and every call keeps to them.
-    ghost possible: { Setup → List Opened → Type 0 };
-
-    ghost standing: { (m : Self) → sound m → possible (setup m) (opened m) };
-
-    ghost kept: { (S : Setup) (o : List Opened) (n : ℕ) (c : Call) → possible S o → possible S (opens_after (world kind S n) o c) };
-
-    // The four laws, at every list of open mappings that calls can lead to.
-    ghost disjoint_pages: { (S : Setup) (o : List Opened) → possible S o → DisjointPages S o };
-
-    ghost exact_reach: { (m : Self) (c p : ℕ) → sound m → reach m c p ≡ reach_of (opened m) c p };
-
-    ghost landing: { (S : Setup) (o : List Opened) → possible S o → Landings (kind.reserved S) o };
-
-    ghost empty_room: { (S : Setup) (o : List Opened) → possible S o → EmptyRoom kind S };
-
-    // A choice refuses with 9 to 12 only.
-    ghost refusals: { (S : Setup) (o : List Opened) → possible S o → ChoiceRefusals kind S o };
-
-    // The bounds of set-up and of each open mapping.
-    ghost bounds: { (S : Setup) (o : List Opened) → possible S o → Bounds S (kind.reserved S) o };
-
+pub trait Mapper: Meaning {
     // How many cards there are.
     fn cards(&self) -> u8
-        requires { sound self.now }
-        ensures { result ≡ (setup self.now).cards };
+        ensures { result ≡ (Self.setup self.now).cards };
 
     // How many frames of memory there are.
     fn frames(&self) -> u32
-        requires { sound self.now }
-        ensures { result ≡ (setup self.now).frames };
+        ensures { result ≡ (Self.setup self.now).frames };
 
     // How many mappings are open.
     fn open_count(&self) -> u32
-        requires { sound self.now }
-        ensures { result ≡ length (opened self.now) };
+        ensures { result ≡ length (Self.opened self.now) };
 
     // Is the frame reserved?
     fn is_reserved(&self, frame: Frame) -> bool
-        requires { sound self.now }
-        ensures { result ≡ kind.reserved (setup self.now) frame.0 };
+        ensures { result ≡ Self.kind.reserved (Self.setup self.now) frame.0 };
 
     // Is the byte in a buffer whose holder is a card?
     fn is_held(&self, address: u32) -> bool
-        requires { sound self.now }
-        ensures { result ≡ held (opened self.now) address };
+        ensures { result ≡ held (Self.opened self.now) address };
 
     // The open mapping of the card that starts at the device address.
     fn mapping_at(&self, card: Card, device: DeviceAddress) -> Option<Mapping>
-        requires { sound self.now }
-        ensures { result ≡ find (opened self.now) card.0 device.0 };
+        ensures { result ≡ find (Self.opened self.now) card.0 device.0 };
 
     // What map would answer; changes nothing.
     fn would(&self, memory: &[u8], request: Request) -> Result<DeviceAddress, Fault>
-        requires { sound self.now }
-        ensures { tells_at result ≡ answer (here kind setup self.now memory.now) (seen (opened self.now) memory.now) (map request) };
+        ensures { tells_at result ≡ answer (here Self.Meaning self.now memory.now) (seen (Self.opened self.now) memory.now) (map request) };
 
     // Opens a mapping, holder card, and answers its device address.
     fn map(&mut self, memory: &mut [u8], request: Request) -> Result<DeviceAddress, Fault>
-        requires { sound self.old }
-        ensures { Called kind sound setup opened leaves self.old self.new memory.old memory.new (map request) (tells_at result) };
+        ensures { Called Self.Meaning self.old self.new memory.old memory.new (map request) (tells_at result) };
 
     // Closes the mapping that starts at the device address, with that length and direction.
     fn unmap(
@@ -108,8 +66,7 @@ pub trait Mapper {
         device: DeviceAddress,
         length: u32,
     ) -> Result<(), Fault>
-        requires { sound self.old }
-        ensures { Called kind sound setup opened leaves self.old self.new memory.old memory.new (unmap card.0 direction device.0 length) (tells_done result) };
+        ensures { Called Self.Meaning self.old self.new memory.old memory.new (unmap card.0 direction device.0 length) (tells_done result) };
 
     // Turns the holder of the mapping that starts at the device address.
     fn sync(
@@ -119,53 +76,38 @@ pub trait Mapper {
         card: Card,
         device: DeviceAddress,
     ) -> Result<(), Fault>
-        requires { sound self.old }
-        ensures { Called kind sound setup opened leaves self.old self.new memory.old memory.new (sync call card.0 device.0) (tells_done result) };
+        ensures { Called Self.Meaning self.old self.new memory.old memory.new (sync call card.0 device.0) (tells_done result) };
 
     // The frame that a card's access to a device page reaches, or the block.
     fn translate(&mut self, card: Card, page: DevicePage, access: Access) -> Result<Frame, Fault>
-        requires { sound self.old }
-        ensures { Translated kind sound setup opened leaves self.old self.new card.0 page.0 access result };
+        ensures { Translated Self.Meaning self.old self.new card.0 page.0 access result };
 
     // The lowest reserved frame among `count` from `first` on.
     fn lowest_reserved(&self, first: u32, count: u32) -> Option<u32>
-        requires sure { sound self.now }
-        requires fits { first + count < 2 ^ 32 }
-        ensures { lowest ReservedFrame result ≡ none_reserved (kind.reserved (setup self.now)) first count }
+        requires { first + count < 2 ^ 32 }
+        ensures { lowest ReservedFrame result ≡ none_reserved (Self.kind.reserved (Self.setup self.now)) first count }
     {
-        for i in 0..count {
-            if self.is_reserved(Frame(first + i)) {
-                return Some(first + i);
-            }
-        }
-        None
+        (first..first + count).find(|&frame| self.is_reserved(Frame(frame)))
     }
 
     // The lowest byte among `count` from `first` on that lies in a buffer whose holder is a card.
     fn lowest_held(&self, first: u32, count: u32) -> Option<u32>
-        requires sure { sound self.now }
-        requires fits { first + count < 2 ^ 32 }
-        ensures { lowest WrongHolder result ≡ none_held (opened self.now) first count }
+        requires { first + count < 2 ^ 32 }
+        ensures { lowest WrongHolder result ≡ none_held (Self.opened self.now) first count }
     {
-        for i in 0..count {
-            if self.is_held(first + i) {
-                return Some(first + i);
-            }
-        }
-        None
+        (first..first + count).find(|&byte| self.is_held(byte))
     }
 
     // What map and would check before the choice: card, direction, length, memory, reserved frames.
     fn admit(&self, memory: &[u8], request: Request) -> Result<(), Fault>
-        requires { sound self.now }
-        ensures { (v : Verdict) → admitted (here kind setup self.now memory.now) request v ≡ passes result v }
+        ensures { (v : Verdict) → admitted (here Self.Meaning self.now memory.now) request v ≡ passes result v }
     {
         let buffer = request.buffer;
         if request.card.0 >= self.cards() {
             return Err(FaultKind::NoCard.at(request.card.0 as u64));
         }
-        if request.direction > 2 {
-            return Err(FaultKind::NoDirection.at(request.direction as u64));
+        if let Err(kind) = Direction::try_from(request.direction) {
+            return Err(kind.at(request.direction as u64));
         }
         if buffer.length == 0 || buffer.span() > 8 {
             return Err(FaultKind::WrongLength.at(buffer.length as u64));
@@ -189,15 +131,15 @@ pub trait Mapper {
         device: DeviceAddress,
         length: u32,
     ) -> Result<Mapping, Fault>
-        requires { sound self.now }
-        ensures { Names (unmap_checks (here kind setup self.now memory.now) (opened self.now) card.0 direction device.0 length) (find (opened self.now) card.0 device.0) result }
+        ensures { Names (unmap_checks (here Self.Meaning self.now memory.now) (Self.opened self.now) card.0 direction device.0 length) (find (Self.opened self.now) card.0 device.0) result }
     {
         if card.0 >= self.cards() {
             return Err(FaultKind::NoCard.at(card.0 as u64));
         }
-        if direction > 2 {
-            return Err(FaultKind::NoDirection.at(direction as u64));
-        }
+        let direction = match Direction::try_from(direction) {
+            Ok(named) => named,
+            Err(kind) => return Err(kind.at(direction as u64)),
+        };
         let end = self.frames() as u64 * 4096;
         if memory.len() as u64 != end {
             return Err(FaultKind::OutsideMemory.at(end));
@@ -205,7 +147,7 @@ pub trait Mapper {
         let Some(mapping) = self.mapping_at(card, device) else {
             return Err(FaultKind::NotOpen.at(device.0));
         };
-        if mapping.buffer.length != length || mapping.direction.code() != direction {
+        if mapping.buffer.length != length || mapping.direction != direction {
             return Err(FaultKind::OtherMapping.at(mapping.buffer.length as u64));
         }
         Ok(mapping)
@@ -219,8 +161,7 @@ pub trait Mapper {
         card: Card,
         device: DeviceAddress,
     ) -> Result<Mapping, Fault>
-        requires { sound self.now }
-        ensures { Names (sync_checks (here kind setup self.now memory.now) (opened self.now) call card.0 device.0) (find (opened self.now) card.0 device.0) result }
+        ensures { Names (sync_checks (here Self.Meaning self.now memory.now) (Self.opened self.now) call card.0 device.0) (find (Self.opened self.now) card.0 device.0) result }
     {
         if card.0 >= self.cards() {
             return Err(FaultKind::NoCard.at(card.0 as u64));
@@ -247,8 +188,7 @@ pub trait Mapper {
         count: usize,
         room: usize,
     ) -> Result<(), Fault>
-        requires { sound self.now }
-        ensures { (v : Verdict) → card_checks (here kind setup self.now memory.now) card.0 device.0 count room v ≡ passes result v }
+        ensures { (v : Verdict) → card_checks (here Self.Meaning self.now memory.now) card.0 device.0 count room v ≡ passes result v }
     {
         if card.0 >= self.cards() {
             return Err(FaultKind::NoCard.at(card.0 as u64));
@@ -276,8 +216,7 @@ pub trait Mapper {
         room: usize,
         access: Access,
     ) -> Result<usize, Fault>
-        requires { sound self.old }
-        ensures { Targeted kind sound setup opened leaves self.old self.new memory.now card.0 device.0 count room access result }
+        ensures { Targeted Self.Meaning self.old self.new memory.now card.0 device.0 count room access result }
     {
         self.accessing(memory, card, device, count, room)?;
         let frame = self.translate(card, device.page(), access)?;
@@ -293,8 +232,7 @@ pub trait Mapper {
         count: usize,
         out: &mut [u8],
     ) -> Result<(), Fault>
-        requires { sound self.old }
-        ensures { Read kind sound setup opened leaves self.old self.new memory.now out.old out.new (card_read card.0 device.0 count out.old) (tells_bytes result out.new) }
+        ensures { Read Self.Meaning self.old self.new memory.now out.old out.new (card_read card.0 device.0 count out.old) (tells_bytes result out.new) }
     {
         let at = self.target(memory, card, device, count, out.len(), Access::Read)?;
         read_bytes(memory, at, count, out);
@@ -309,8 +247,7 @@ pub trait Mapper {
         device: DeviceAddress,
         bytes: &[u8],
     ) -> Result<(), Fault>
-        requires { sound self.old }
-        ensures { Called kind sound setup opened leaves self.old self.new memory.old memory.new (card_write card.0 device.0 bytes.now) (tells_done result) }
+        ensures { Called Self.Meaning self.old self.new memory.old memory.new (card_write card.0 device.0 bytes.now) (tells_done result) }
     {
         let at = self.target(
             memory,
@@ -326,17 +263,12 @@ pub trait Mapper {
 }
 
 // The frame that a reach lets a card access, or the block: absent, or the right is lacking.
-pub fn judge(reach: Reach, level: u64, access: Access) -> Result<Frame, Fault>
+pub fn judge(reach: Option<Reach>, level: u64, access: Access) -> Result<Frame, Fault>
     ensures { Judged reach level access result }
 {
     match reach {
-        Reach::Nothing => Err(FaultKind::Absent.at(level)),
-        Reach::Reaches(frame, rights) => {
-            if rights.allow(access) {
-                Ok(frame)
-            } else {
-                Err(FaultKind::Lacking.at(level))
-            }
-        }
+        None => Err(FaultKind::Absent.at(level)),
+        Some(reach) if reach.rights.allow(access) => Ok(reach.frame),
+        Some(_) => Err(FaultKind::Lacking.at(level)),
     }
 }

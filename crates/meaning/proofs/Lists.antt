@@ -1,10 +1,9 @@
 -- Lists of open mappings: which are in them, in which order, and what the changes do.
-use Rattle.std.proofs.Common.{◌≡◌, ℕ, suc, ◌<◌, ◌≤◌, Bool, true, false, cond, ◌&&◌, ◌||◌, ltb, ◌⊎◌, List, [], ◌∷◌, length, Some, None, sym, refl, ap, ◌∙◌, subst, inl, inr, arith}
+use Rattle.std.proofs.Common.{◌≡◌, ℕ, suc, ◌<◌, ◌≤◌, Bool, true, false, cond, ◌&&◌, ◌||◌, ltb, ◌⊎◌, List, [], ◌∷◌, length, Some, None, Option, sym, refl, ap, ◌∙◌, subst, inl, inr, arith}
 use Rattle.std.proofs.lemmas.Bool.{ltb-true, ltb-false, lt-ltb, le-ltb, cond-true, cond-false, cases_lt}
 use Rattle.units.specs.declared.mapping.Holder.{Holder}
 use Rattle.units.specs.declared.mapping.Mapping.{Mapping}
 use Rattle.units.specs.declared.mapping.Reach.{Reach}
-use Rattle.units.specs.declared.mapping.Reach.TheVariants.{Nothing}
 use Rattle.meaning.specs.Mappings.{In, Pairwise, key, starts, covers, on_page, card_holds, turned, insert, remove, turn, find, held, reach_of, reach_through}
 
 -- What is in a list ---------------------------------------------------------------------------------------
@@ -307,7 +306,7 @@ held_in b (x ∷ xs) m (inr i) e = let later = held_in b xs m i e in go (card_ho
     go true later = refl
     go false later = later
 
-pub reach_none : (c p : ℕ) (o : List Mapping) → ((n : Mapping) → In n o → on_page c p n ≡ false) → reach_of o c p ≡ Nothing
+pub reach_none : (c p : ℕ) (o : List Mapping) → ((n : Mapping) → In n o → on_page c p n ≡ false) → reach_of o c p ≡ None
 unfolding reach_of
 reach_none c p [] h = refl
 reach_none c p (x ∷ xs) h = cond-false (on_page c p x) (reach_through x p) (reach_of xs c p) (h x (inl refl)) ∙ reach_none c p xs (λ n i. h n (inr i))
@@ -324,9 +323,9 @@ reach_of_in c p (x ∷ xs) m i s one = go (on_page c p x) refl i (λ j. reach_of
 
 pub reach_insert_other : (c p : ℕ) (m : Mapping) (o : List Mapping) → on_page c p m ≡ false → reach_of (insert m o) c p ≡ reach_of o c p
 unfolding reach_of insert
-reach_insert_other c p m [] e = cond-false (on_page c p m) (reach_through m p) Nothing e
+reach_insert_other c p m [] e = cond-false (on_page c p m) (reach_through m p) None e
 reach_insert_other c p m (k ∷ o) e = go (ltb (key m) (key k)) (reach_insert_other c p m o e)
   where
     go : (b : Bool) → reach_of (insert m o) c p ≡ reach_of o c p → reach_of (cond b (m ∷ k ∷ o) (k ∷ insert m o)) c p ≡ cond (on_page c p k) (reach_through k p) (reach_of o c p)
     go true later = cond-false (on_page c p m) (reach_through m p) _ e
-    go false later = ap (λ (z : Reach). cond (on_page c p k) (reach_through k p) z) later
+    go false later = ap (λ (z : Option Reach). cond (on_page c p k) (reach_through k p) z) later

@@ -7,7 +7,6 @@ use Rattle.units.specs.declared.fault.FaultKind.{FaultKind}
 use Rattle.units.specs.declared.fault.FaultKind.TheVariants.{NoCard, NoDirection, WrongLength, OutsideMemory, ReservedFrame, NotOpen, OtherMapping, WrongHolder, CrossesPage, Absent, Lacking}
 use Rattle.units.specs.declared.mapping.Mapping.{Mapping}
 use Rattle.units.specs.declared.mapping.Reach.{Reach}
-use Rattle.units.specs.declared.mapping.Reach.TheVariants.{Nothing, Reaches}
 use Rattle.units.specs.declared.mapping.Request.{Request}
 use Rattle.units.specs.declared.mapping.Sync.{Sync}
 use Rattle.units.specs.Buffers.{span}
@@ -89,9 +88,9 @@ abbrev pub one_page : ℕ → ℕ → Verdict
 one_page v n = unless (nat_le (v % 4096 + n) 4096 && nat_lt v (2 ^ 48)) CrossesPage v
 
 -- what is reached gives the right; a block names the level
-abbrev pub allowed : Reach → ℕ → Access → Verdict
-allowed Nothing l a = fault Absent l
-allowed (Reaches f r) l a = unless (allows a r) Lacking l
+abbrev pub allowed : Option Reach → ℕ → Access → Verdict
+allowed None l a = fault Absent l
+allowed (Some s) l a = unless (allows a s.rights) Lacking l
 
 -- In their order ------------------------------------------------------------------------------------------
 

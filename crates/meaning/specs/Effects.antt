@@ -1,12 +1,12 @@
 -- What each call answers, and what it leaves of open mappings, memory, reports and answer buffer.
-use Rattle.std.specs.Prelude.{ℕ, ◌+◌, ◌-◌, ◌*◌, ◌/◌, ◌%◌, ◌^◌, min, Bool, cond, ◌&&◌, List, Some, None, Ok, Err, Option, ◌==◌}
+use Rattle.std.specs.Prelude.{ℕ, ◌+◌, ◌-◌, ◌*◌, ◌/◌, ◌%◌, ◌^◌, min, Bool, cond, ◌&&◌, List, Some, None, Ok, Err, Option, Result, ◌==◌}
 use Rattle.units.specs.declared.direction.Direction.{Direction}
 use Rattle.units.specs.declared.direction.Direction.TheVariants.{Both}
+use Rattle.units.specs.declared.fault.FaultKind.{FaultKind}
 use Rattle.units.specs.declared.mapping.Holder.TheVariants.{ByCard}
 use Rattle.units.specs.declared.mapping.Mapping.{Mapping}
 use Rattle.units.specs.declared.mapping.Placement.{Placement}
 use Rattle.units.specs.declared.mapping.Reach.{Reach}
-use Rattle.units.specs.declared.mapping.Reach.TheVariants.{Nothing, Reaches}
 use Rattle.units.specs.declared.mapping.Request.{Request}
 use Rattle.units.specs.declared.mapping.Sync.{Sync}
 use Rattle.units.specs.declared.mapping.Sync.TheVariants.{ForCpu, ForCard}
@@ -35,9 +35,9 @@ on_choice (Ok p) x g = g p
 -- Open mappings -------------------------------------------------------------------------------------------
 
 -- the direction of a number that the checks let pass
-abbrev pub direction_of : Option Direction → Direction
-direction_of (Some d) = d
-direction_of None = Both
+abbrev pub direction_of : Result Direction FaultKind → Direction
+direction_of (Ok d) = d
+direction_of (Err k) = Both
 
 -- what map opens, holder card
 abbrev pub new_mapping : Request → Placement → Mapping
@@ -85,9 +85,9 @@ copy_at_sync ForCpu m x = copy_back m x
 copy_at_sync ForCard m x = copy_again m x
 
 -- the memory address that a card finds at device address v
-abbrev pub reached_byte : Reach → ℕ → ℕ
-reached_byte Nothing v = 0
-reached_byte (Reaches f r) v = f.0 * 4096 + v % 4096
+abbrev pub reached_byte : Option Reach → ℕ → ℕ
+reached_byte None v = 0
+reached_byte (Some s) v = s.frame.0 * 4096 + v % 4096
 
 abbrev pub moved : World → List Mapping → Bytes → Call → Bytes
 moved W o x (map r) = on_choice (W.choice o r) x (λ p. copy_in W.reserved (new_mapping r p) x)

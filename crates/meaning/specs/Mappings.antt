@@ -4,7 +4,6 @@ use Rattle.units.specs.declared.mapping.Holder.{Holder}
 use Rattle.units.specs.declared.mapping.Holder.TheVariants.{ByCard, ByCpu}
 use Rattle.units.specs.declared.mapping.Mapping.{Mapping}
 use Rattle.units.specs.declared.mapping.Reach.{Reach}
-use Rattle.units.specs.declared.mapping.Reach.TheVariants.{Nothing, Reaches}
 use Rattle.units.specs.Buffers.{span}
 use Rattle.units.specs.Directions.{rights_of}
 use Rattle.meaning.specs.Memory.{within}
@@ -103,10 +102,10 @@ held [] b = false
 held (m ∷ o) b = (card_holds m.holder && covers m b) || held o b
 
 -- page j of a mapping reaches frame j counted from its landing, with the direction's rights
-abbrev pub reach_through : Mapping → ℕ → Reach
-reach_through m p = Reaches (record { 0 = first_frame m + (p - first_page m) }) (rights_of m.direction)
+abbrev pub reach_through : Mapping → ℕ → Option Reach
+reach_through m p = Some (record { frame = record { 0 = first_frame m + (p - first_page m) }; rights = rights_of m.direction })
 
 -- what card c reaches at device page p, and it reaches nothing else
-unfoldable pub reach_of : List Mapping → ℕ → ℕ → Reach
-reach_of [] c p = Nothing
+unfoldable pub reach_of : List Mapping → ℕ → ℕ → Option Reach
+reach_of [] c p = None
 reach_of (m ∷ o) c p = cond (on_page c p m) (reach_through m p) (reach_of o c p)

@@ -1,5 +1,5 @@
 -- What a mapper is to all that stands above it: its set-up, and functions of set-up and open mappings.
-use Rattle.std.specs.Prelude.{ℕ, Bool, List, Result, slice_index_or}
+use Rattle.std.specs.Prelude.{ℕ, Bool, List, Option, Result, slice_index_or}
 use Rattle.units.specs.declared.fault.Fault.{Fault}
 use Rattle.units.specs.declared.mapping.Mapping.{Mapping}
 use Rattle.units.specs.declared.mapping.Placement.{Placement}
@@ -37,7 +37,7 @@ pub record World : Type 0 where
   pub size : ℕ
   pub reserved : ℕ → Bool
   pub choice : List Mapping → Request → Choice
-  pub reach : List Mapping → ℕ → ℕ → Reach
+  pub reach : List Mapping → ℕ → ℕ → Option Reach
   pub level : List Mapping → ℕ → ℕ → ℕ
 
 -- equal set-ups make equal worlds

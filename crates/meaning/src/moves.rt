@@ -1,5 +1,5 @@
 // The moves of bytes that calls make: each changes exactly the bytes that its definition names.
-ghost use Rattle.std.specs.Prelude.{◌≡◌, ◌+◌, ◌≤◌, ◌⊎◌, length};
+ghost use Rattle.std.specs.Prelude.{◌≡◌, ◌+◌, ◌≤◌, length};
 ghost use Rattle.meaning.specs.Memory.{bytes_of, clear, copy, paste, read_into};
 
 // Writes the bytes at an address.
@@ -7,21 +7,16 @@ pub fn write_bytes(memory: &mut [u8], at: usize, bytes: &[u8])
     requires { at + length bytes.now ≤ length memory.old }
     ensures { bytes_of memory.new ≡ paste at bytes.now (bytes_of memory.old) }
 {
-    for (i, b) in bytes.iter().enumerate() {
-        memory[at + i] = *b;
-    }
+    memory[at..at + bytes.len()].copy_from_slice(bytes);
 }
 
-// Copies bytes to a place that does not overlap them.
+// Copies bytes to another place, which may overlap them.
 pub fn copy_bytes(memory: &mut [u8], to: usize, from: usize, count: usize)
     requires target { to + count ≤ length memory.old }
     requires source { from + count ≤ length memory.old }
-    requires apart { (to + count ≤ from) ⊎ (from + count ≤ to) }
     ensures { bytes_of memory.new ≡ copy to from count (bytes_of memory.old) }
 {
-    for i in 0..count {
-        memory[to + i] = memory[from + i];
-    }
+    memory.copy_within(from..from + count, to);
 }
 
 // Makes bytes 0.
@@ -29,9 +24,7 @@ pub fn clear_bytes(memory: &mut [u8], at: usize, count: usize)
     requires { at + count ≤ length memory.old }
     ensures { bytes_of memory.new ≡ clear at count (bytes_of memory.old) }
 {
-    for i in 0..count {
-        memory[at + i] = 0;
-    }
+    memory[at..at + count].fill(0);
 }
 
 // Reads bytes into the front of an answer buffer; its further bytes stay.
@@ -40,7 +33,5 @@ pub fn read_bytes(memory: &[u8], from: usize, count: usize, out: &mut [u8])
     requires room { count ≤ length out.old }
     ensures { bytes_of out.new ≡ read_into out.old count from (bytes_of memory.now) }
 {
-    for i in 0..count {
-        out[i] = memory[from + i];
-    }
+    out[..count].copy_from_slice(&memory[from..from + count]);
 }

@@ -1,6 +1,5 @@
 // The words for an open mapping, in code.
-ghost use Rattle.std.specs.Prelude.{◌≡◌, ℕ, ◌+◌, ◌-◌, ◌/◌, ◌^◌, ◌<◌, ◌≤◌, Bool, true, ◌&&◌, if◌then◌else◌};
-ghost use Rattle.units.specs.declared.mapping.Reach.TheVariants.{Nothing};
+ghost use Rattle.std.specs.Prelude.{◌≡◌, ℕ, ◌+◌, ◌-◌, ◌/◌, ◌^◌, ◌<◌, ◌≤◌, Bool, true, ◌&&◌, if◌then◌else◌, None};
 ghost use Rattle.meaning.specs.Mappings.{card_holds, covers, on_page, reach_through, starts};
 ghost use Rattle.meaning.specs.Effects.{new_mapping};
 
@@ -12,13 +11,9 @@ use units::{
 pub fn new_mapping(request: Request, placement: Placement) -> Mapping
     ensures { result ≡ new_mapping request placement }
 {
-    let direction = match Direction::from_code(request.direction) {
-        Some(direction) => direction,
-        None => Direction::Both,
-    };
     Mapping {
         card: request.card,
-        direction,
+        direction: Direction::try_from(request.direction).unwrap_or(Direction::Both),
         buffer: request.buffer,
         device: placement.device,
         landing: placement.landing,
@@ -30,7 +25,7 @@ pub fn new_mapping(request: Request, placement: Placement) -> Mapping
 pub fn starts_at(mapping: &Mapping, card: Card, device: DeviceAddress) -> bool
     ensures { result ≡ starts card.0 device.0 mapping.now }
 {
-    mapping.card.0 == card.0 && mapping.device.0 == device.0
+    mapping.card == card && mapping.device == device
 }
 
 // The card's device page is one of the mapping's.
@@ -38,31 +33,29 @@ pub fn is_on_page(mapping: &Mapping, card: Card, page: DevicePage) -> bool
     ensures test { result ≡ on_page card.0 page.0 mapping.now }
     ensures near { result ≡ true → (mapping.now.device.0 / 4096 ≤ page.0) × (page.0 - mapping.now.device.0 / 4096 < 1048577) }
 {
-    let first = mapping.device.0 / 4096;
-    mapping.card.0 == card.0 && first <= page.0 && page.0 - first < mapping.buffer.span()
+    let first = mapping.device.page();
+    mapping.card == card && first.0 <= page.0 && page.0 - first.0 < mapping.buffer.span()
 }
 
 // The byte is in the mapping's buffer, and the card holds that.
 pub fn is_held_at(mapping: &Mapping, address: u32) -> bool
     ensures { result ≡ (card_holds mapping.now.holder && covers mapping.now address) }
 {
-    match mapping.holder {
-        Holder::ByCard => mapping.buffer.address <= address
-            && (address as u64) < mapping.buffer.end(),
-        Holder::ByCpu => false,
-    }
+    mapping.holder == Holder::ByCard
+        && mapping.buffer.address <= address
+        && (address as u64) < mapping.buffer.end()
 }
 
 // The frame and rights that the card finds through the mapping at a device page.
-pub fn reach_by(mapping: &Mapping, card: Card, page: DevicePage) -> Reach
-    ensures { result ≡ (if on_page card.0 page.0 mapping.now then reach_through mapping.now page.0 else Nothing) }
+pub fn reach_by(mapping: &Mapping, card: Card, page: DevicePage) -> Option<Reach>
+    ensures { result ≡ (if on_page card.0 page.0 mapping.now then reach_through mapping.now page.0 else None) }
 {
     if !is_on_page(mapping, card, page) {
-        return Reach::Nothing;
+        return None;
     }
-    let ahead = page.0 - mapping.device.0 / 4096;
-    Reach::Reaches(
-        Frame(Frame::of(mapping.landing).0 + ahead as u32),
-        mapping.direction.rights(),
-    )
+    let ahead = page.0 - mapping.device.page().0;
+    Some(Reach {
+        frame: Frame(Frame::of(mapping.landing).0 + ahead as u32),
+        rights: mapping.direction.rights(),
+    })
 }

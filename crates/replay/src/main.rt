@@ -5,57 +5,51 @@ use engine::Engine;
 use runs::Reply;
 use script::{Reader, Record};
 use session::{bare_windows, play};
+use std::fmt;
 use std::io::Read;
 use units::{Card, Fault};
 use windows::Windows;
 
-// How many bytes a record reads.
-fn count_of(record: Record<'_>) -> usize {
-    match record {
-        Record::CpuRead { count, .. } => count as usize,
-        Record::CardRead { count, .. } => count as usize,
-        _ => 0,
-    }
-}
-
-fn print_fault(rt: &HostRuntime, index: u32, fault: Fault) -> anyhow::Result<()> {
-    let number = fault.kind.number();
-    let layer = fault.layer;
-    let place = fault.place;
-    println!(rt; "{index} no {number} {layer} {place}")?;
-    Ok(())
-}
-
-fn print_bytes(rt: &HostRuntime, index: u32, bytes: &[u8], count: usize) -> anyhow::Result<()> {
-    print!(rt; "{index} data ")?;
-    for byte in bytes.iter().take(count) {
-        print!(rt; "{byte:02x}")?;
-    }
-    println!(rt; "")?;
-    Ok(())
-}
-
-// One line for one record's answer.
-fn print_reply(
-    rt: &HostRuntime,
+// The line of one record: its index and what was answered, with the bytes that a read gave.
+#[derive(Clone, Copy)]
+struct Line<'a> {
     index: u32,
-    reply: Reply,
-    bytes: &[u8],
-    count: usize,
-) -> anyhow::Result<()> {
-    match reply {
-        Reply::Refused(fault) => print_fault(rt, index, fault),
-        Reply::At(device) => {
-            let address = device.0;
-            println!(rt; "{index} at {address:012x}")?;
-            Ok(())
+    answer: Result<Reply, Fault>,
+    bytes: &'a [u8],
+}
+
+impl fmt::Display for Line<'_> {
+    fn fmt<W: fmt::Write>(&self, f: &mut fmt::Formatter<W>) -> fmt::Result {
+        let index = self.index;
+        match self.answer {
+            Err(fault) => {
+                let number = u8::from(fault.kind);
+                let layer = fault.layer;
+                let place = fault.place;
+                write!(f, "{index} no {number} {layer} {place}")
+            }
+            Ok(Reply::At(device)) => {
+                let address = device.0;
+                write!(f, "{index} at {address:012x}")
+            }
+            Ok(Reply::Bytes) => {
+                write!(f, "{index} data ")?;
+                for byte in self.bytes {
+                    write!(f, "{byte:02x}")?;
+                }
+                Ok(())
+            }
+            Ok(Reply::Done) => write!(f, "{index} ok"),
+            Ok(Reply::Told(_)) => Ok(()),
         }
-        Reply::Bytes => print_bytes(rt, index, bytes, count),
-        Reply::Done => {
-            println!(rt; "{index} ok")?;
-            Ok(())
-        }
-        Reply::Told(_) => Ok(()),
+    }
+}
+
+// How many bytes a record reads.
+fn count_of(asked: Record<'_>) -> usize {
+    match asked {
+        Record::CpuRead { count, .. } | Record::CardRead { count, .. } => count as usize,
+        _ => 0,
     }
 }
 
@@ -67,23 +61,36 @@ fn play_all(
     script: &[u8],
 ) -> anyhow::Result<()> {
     let mut reader = Reader::new(script);
-    let mut index: u32 = 0;
-    loop {
-        match reader.next() {
-            Ok(Some(record)) => {
-                let mut out = [0u8; 64];
-                let reply = play(engine, memory, record, &mut out);
-                print_reply(rt, index, reply, &out, count_of(record))?;
+    for index in 0..=u32::MAX {
+        let asked = match reader.next() {
+            Ok(Some(asked)) => asked,
+            Ok(None) => break,
+            Err(fault) => {
+                let answer = Err(fault);
+                let line = Line {
+                    index,
+                    answer,
+                    bytes: &[],
+                };
+                println!(rt; "{line}")?;
+                break;
             }
-            Ok(None) => return Ok(()),
-            Err(fault) => return print_fault(rt, index, fault),
-        }
-        index = index.saturating_add(1);
+        };
+        let mut out = [0u8; 64];
+        let answer = play(engine, memory, asked, &mut out);
+        let bytes = &out[..count_of(asked).min(64)];
+        let line = Line {
+            index,
+            answer,
+            bytes,
+        };
+        println!(rt; "{line}")?;
     }
+    Ok(())
 }
 
 fn print_blocks(rt: &HostRuntime, engine: &Engine<Windows>) -> anyhow::Result<()> {
-    for card in 0u8..2 {
+    for card in 0..2 {
         if let Ok(report) = engine.report(Card(card)) {
             let count = report.count;
             println!(rt; "card {card} blocked {count}")?;

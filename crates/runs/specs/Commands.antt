@@ -1,45 +1,42 @@
 -- The calls and answers that the code's values stand for, and a run of steps.
-use Rattle.std.specs.Prelude.{◌≡◌, ℕ, List, [], ◌∷◌, vec_items}
-use Rattle.units.specs.declared.mapping.Mapping.{Mapping}
-use Rattle.units.specs.declared.mapping.Sync.TheVariants.{ForCpu, ForCard}
-use Rattle.units.specs.declared.report.Report.{Report as ReportOf}
+use Rattle.std.specs.Prelude.{◌≡◌, ℕ, List, [], ◌∷◌, Ok, Err, Result, vec_items}
+use Rattle.units.specs.declared.fault.Fault.{Fault}
 use Rattle.meaning.specs.Memory.{bytes_of}
-use Rattle.meaning.specs.Worlds.{Setup, Kind, World}
+use Rattle.meaning.specs.Worlds.{World}
 use Rattle.meaning.specs.Calls.{Call, map, unmap, sync, cpu_read, cpu_write, card_read, card_write, report, Answer, fails, done, at, bytes, tells}
 use Rattle.meaning.specs.Effects.{State, buffer_after}
 use Rattle.meaning.specs.Runs.{answers, final}
-use Rattle.mapper.specs.Tasks.{Task}
+use Rattle.mapper.specs.declared.laws.Meaning.{Ghosts as Meaning}
+use Rattle.engine.specs.declared.Engine.{Engine}
 use Rattle.engine.specs.Made.{Made}
 use Rattle.runs.specs.declared.command.Command.{Command}
-use Rattle.runs.specs.declared.command.Command.TheVariants.{Map, Unmap, SyncForCpu, SyncForCard, CpuRead, CpuWrite, CardRead, CardWrite, Report}
+use Rattle.runs.specs.declared.command.Command.TheVariants.{Map, Unmap, Sync, CpuRead, CpuWrite, CardRead, CardWrite, Report}
 use Rattle.runs.specs.declared.command.Reply.{Reply}
-use Rattle.runs.specs.declared.command.Reply.TheVariants.{Refused, Done, At, Bytes, Told}
+use Rattle.runs.specs.declared.command.Reply.TheVariants.{Done, At, Bytes, Told}
 use Rattle.runs.specs.declared.command.Step.{Step}
 
 -- the call that a command makes, with answer buffer t
 abbrev pub meant : Command → List ℕ → Call
 meant (Map r) t = map r
 meant (Unmap c d v n) t = unmap c.0 d v.0 n
-meant (SyncForCpu c v) t = sync ForCpu c.0 v.0
-meant (SyncForCard c v) t = sync ForCard c.0 v.0
+meant (Sync s c v) t = sync s c.0 v.0
 meant (CpuRead a n) t = cpu_read a n t
 meant (CpuWrite a b) t = cpu_write a b.now
 meant (CardRead c v n) t = card_read c.0 v.0 n t
 meant (CardWrite c v b) t = card_write c.0 v.0 b.now
 meant (Report c) t = report c.0
 
--- the answer that a reply gives, with answer buffer t afterwards
-abbrev pub spoken : Reply → List ℕ → Answer
-spoken (Refused f) t = fails f
-spoken Done t = done
-spoken (At v) t = at v.0
-spoken Bytes t = bytes (bytes_of t)
-spoken (Told r) t = tells r
+-- the answer that a reply gives, or a refusal, with answer buffer t afterwards
+abbrev pub spoken : Result Reply Fault → List ℕ → Answer
+spoken (Err f) t = fails f
+spoken (Ok Done) t = done
+spoken (Ok (At v)) t = at v.0
+spoken (Ok Bytes) t = bytes (bytes_of t)
+spoken (Ok (Told r)) t = tells r
 
 -- a call made, with all that it leaves: mapper, reports, memory and answer buffer
-pub record MadeOne {M : Type 0} (K : Kind) (sound : M → Type 0) (setup : M → Setup) (opened : M → List Mapping) (leaves : M → Task → M → Type 0)
-    (m m' : M) (r r' : List ReportOf) (x x' t t' : List ℕ) (c : Call) (a : Answer) : Type 0 where
-  pub made : Made K sound setup opened leaves m m' r r' x x' c a
+pub record MadeOne {M : Type 0} (I : Meaning M) (e e' : Engine M) (x x' t t' : List ℕ) (c : Call) (a : Answer) : Type 0 where
+  pub made : Made I e e' x x' c a
   pub buffer : bytes_of t' ≡ buffer_after a t
 
 abbrev pub call_of : Step → Call

@@ -1,8 +1,8 @@
 // A call as a value, what it is answered, and a step of a run.
-use units::{Card, DeviceAddress, Fault, Report, Request};
+use units::{Card, DeviceAddress, Fault, Report, Request, Sync};
 
 // One of the nine calls; a write borrows its bytes.
-#[derive(Clone, Copy)]
+#[derive(Clone, Copy, Debug, PartialEq, Eq)]
 pub enum Command<'a> {
     Map(Request),
     Unmap {
@@ -11,11 +11,8 @@ pub enum Command<'a> {
         device: DeviceAddress,
         length: u32,
     },
-    SyncForCpu {
-        card: Card,
-        device: DeviceAddress,
-    },
-    SyncForCard {
+    Sync {
+        call: Sync,
         card: Card,
         device: DeviceAddress,
     },
@@ -42,20 +39,19 @@ pub enum Command<'a> {
     },
 }
 
-// What a call is answered; a read's bytes are in its answer buffer.
-#[derive(Clone, Copy)]
+// What a call that is let pass is answered; a read's bytes are in its answer buffer.
+#[derive(Clone, Copy, Debug, PartialEq, Eq)]
 pub enum Reply {
-    Refused(Fault),
     Done,
     At(DeviceAddress),
     Bytes,
     Told(Report),
 }
 
-// A call with an answer buffer of its own, and its reply once it has run.
+// A call with an answer buffer of its own, and its reply or refusal once it has run.
 #[derive(Drop)]
 pub struct Step<'a> {
     pub command: Command<'a>,
     pub out: Vec<u8>,
-    pub reply: Reply,
+    pub reply: Result<Reply, Fault>,
 }

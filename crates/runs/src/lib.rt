@@ -3,6 +3,7 @@
 
 mod command;
 mod making;
+mod scripted;
 
 pub use command::{Command, Reply, Step};
 pub use making::{make, run, take_step};

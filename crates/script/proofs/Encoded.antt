@@ -1,10 +1,12 @@
 -- What is written is read back: numbers, values, records, scripts.
-use Rattle.std.proofs.Common.{◌≡◌, ℕ, zero, suc, ◌+◌, ◌-◌, ◌/◌, ◌^◌, ◌<◌, ◌≤◌, List, [], ◌∷◌, ◌++◌, length, take, drop, Some, None, Ok, sym, refl, ap, ◌∙◌, append_assoc, append-nil, pow-suc, arith, length-append}
+use Rattle.std.proofs.Common.{◌≡◌, ℕ, zero, suc, ◌+◌, ◌-◌, ◌/◌, ◌^◌, ◌<◌, ◌≤◌, List, [], ◌∷◌, ◌++◌, length, take, drop, None, Ok, refl, ◌∙◌, append_assoc, append-nil, pow-suc, arith, length-append}
+use Rattle.std.proofs.lemmas.Bool.Decides.{nat_tests}
+use Rattle.std.proofs.Math.Seq.{drop-append-add}
 use Rattle.std.proofs.lemmas.Nat.{div_below}
-use Rattle.std.proofs.lemmas.List.{take_at, take_all, drop_at, drop-drop, get_or_at}
-use Rattle.std.specs.List.{between, AllByRecursion}
+use Rattle.std.proofs.lemmas.List.{take_at, take_all, get_or_at}
+use Rattle.std.specs.List.{AllByRecursion}
 use Rattle.script.specs.Encoding.{tag_of, fields_of, record_of, encode}
-use Rattle.script.specs.Format.{found, placed, end_at, standing, item_at}
+use Rattle.script.specs.Format.{found, end_at, item_at}
 use Rattle.script.specs.Items.{Item, map, unmap, sync_for_cpu, sync_for_card, cpu_write, cpu_read, card_write, card_read}
 use Rattle.script.specs.Laws.{RoundTrip}
 use Rattle.script.specs.Numbers.{little, bytes_of}
@@ -12,7 +14,6 @@ use Rattle.script.specs.Scripts.{read_for}
 use Rattle.script.specs.Values.{item_of, trailed}
 use Rattle.script.specs.Widths.{Data, Fitting}
 use Rattle.script.proofs.Places.{none_left, whole}
-use Rattle.script.proofs.Trailed.{trailed_fits}
 
 -- a number of k bytes
 number_back : (k n : ℕ) (left : List ℕ) → n < 256 ^ k → little k (bytes_of k n ++ left) ≡ n
@@ -23,28 +24,18 @@ number_back (suc k) n left h =
 
 -- data after n bytes of other fields
 trailed_back : (n : ℕ) (front bytes : List ℕ) (item : Item) → length front ≡ n → Data bytes → trailed n (front ++ bytes) item ≡ Ok item
-trailed_back n front bytes item is fits =
-    let long = length-append front bytes in
-    trailed_fits n (front ++ bytes) item (omega (arith, fits.0)) (omega (arith, fits.1))
+trailed_back n front bytes item is fits = grind (arith, nat_tests, length-append {A = ℕ})
 
 -- the value of each kind of record, and its length
 value_back : (item : Item) → Fitting item → item_of (tag_of item) (fields_of item) ≡ Ok item
-value_back (map r) h =
-    let address = number_back 4 r.buffer.address (bytes_of 4 r.buffer.length) h.2 in
-    let size = number_back 4 r.buffer.length [] h.3 in
-    λ i. Ok (map (record { card = r.card; direction = r.direction; buffer = record { address = address i; length = size i } }))
-value_back (unmap card direction device n) h =
-    let to = number_back 8 device.0 (bytes_of 4 n) h.0.1 in
-    let size = number_back 4 n [] h.2 in
-    λ i. Ok (unmap card direction (record { 0 = to i }) (size i))
-value_back (sync_for_cpu card device) h = λ i. Ok (sync_for_cpu card (record { 0 = number_back 8 device.0 [] h.1 i }))
-value_back (sync_for_card card device) h = λ i. Ok (sync_for_card card (record { 0 = number_back 8 device.0 [] h.1 i }))
-value_back (cpu_write address bytes) h =
-    trailed_back 4 (bytes_of 4 address) bytes _ refl h.1 ∙ (λ i. Ok (cpu_write (number_back 4 address bytes h.0 i) bytes))
-value_back (cpu_read address count) h = λ i. Ok (cpu_read (number_back 4 address (count ∷ []) h.0 i) count)
-value_back (card_write card device bytes) h =
-    trailed_back 9 (card.0 ∷ bytes_of 8 device.0) bytes _ refl h.1 ∙ (λ i. Ok (card_write card (record { 0 = number_back 8 device.0 bytes h.0.1 i }) bytes))
-value_back (card_read card device count) h = λ i. Ok (card_read card (record { 0 = number_back 8 device.0 (count ∷ []) h.0.1 i }) count)
+value_back (map r) h = rw (number_back 4 r.buffer.address (bytes_of 4 r.buffer.length) h.2, number_back 4 r.buffer.length [] h.3)
+value_back (unmap card direction device n) h = rw (number_back 8 device.0 (bytes_of 4 n) h.0.1, number_back 4 n [] h.2)
+value_back (sync_for_cpu card device) h = rw (number_back 8 device.0 [] h.1)
+value_back (sync_for_card card device) h = rw (number_back 8 device.0 [] h.1)
+value_back (cpu_write address bytes) h = trailed_back 4 (bytes_of 4 address) bytes _ refl h.1 ∙ rw (number_back 4 address bytes h.0)
+value_back (cpu_read address count) h = rw (number_back 4 address (count ∷ []) h.0)
+value_back (card_write card device bytes) h = trailed_back 9 (card.0 ∷ bytes_of 8 device.0) bytes _ refl h.1 ∙ rw (number_back 8 device.0 bytes h.0.1)
+value_back (card_read card device count) h = rw (number_back 8 device.0 (count ∷ []) h.0.1)
 
 value_short : (item : Item) → Fitting item → length (fields_of item) < 256 ^ 2
 value_short (map r) h = omega arith
@@ -56,25 +47,16 @@ value_short (cpu_read address count) h = omega arith
 value_short (card_write card device bytes) h = omega (arith, h.1.1)
 value_short (card_read card device count) h = omega arith
 
--- what stands past a front
-past : (front body : List ℕ) (k : ℕ) → drop (length front + k) (front ++ body) ≡ drop k body
-past front body k = sym (drop-drop k (length front) (front ++ body)) ∙ ap (drop k) (drop_at front body _ refl)
-
 -- a record of any tag and value
 framed : (front : List ℕ) (tag : ℕ) (v left : List ℕ) (item : Item) → length v < 256 ^ 2 → item_of tag v ≡ Ok item → item_at (front ++ (tag ∷ (bytes_of 2 (length v) ++ v) ++ left)) (length front) ≡ found item (length front + 3 + length v)
 framed front tag v left item short is =
     let body = tag ∷ (bytes_of 2 (length v) ++ v) ++ left in
     let s = front ++ body in
     let at = length front in
-    let next : end_at s at ≡ at + 3 + length v =
-    ap (λ w. at + 3 + little 2 w) (past front body 1) ∙ ap (λ n. at + 3 + n) (number_back 2 (length v) (v ++ left) short) in
-    let value : take (at + 3 + length v - (at + 3)) (drop (at + 3) s) ≡ v =
-    ap (take _) (past front body 3) ∙ take_at v left _ (omega arith) in
-    whole s at (omega (arith, next, length-append front body, length-append v left))
-    ∙ ap (λ n. standing s at (Some n)) next
-    ∙ ap (λ t. placed at (at + 3 + length v) (item_of t (between (at + 3) (at + 3 + length v) s))) (get_or_at front tag _ 0 at refl)
-    ∙ ap (λ w. placed at (at + 3 + length v) (item_of tag w)) value
-    ∙ ap (placed at (at + 3 + length v)) is
+    let next : end_at s at ≡ at + 3 + length v = rw (drop-append-add front body 1, number_back 2 (length v) (v ++ left) short) in
+    let value : take (at + 3 + length v - (at + 3)) (drop (at + 3) s) ≡ v = rw (drop-append-add front body 3) (take_at v left _ (omega arith)) in
+    let within : end_at s at ≤ length s = omega (arith, next, length-append front body, length-append v left) in
+    rw (whole s at within, next, get_or_at front tag (bytes_of 2 (length v) ++ v ++ left) 0 at refl, value, is)
 
 -- a record in a script, and a whole script
 item_back : (front : List ℕ) (item : Item) (left : List ℕ) → Fitting item → item_at (front ++ (record_of item ++ left)) (length front) ≡ found item (length (front ++ record_of item))

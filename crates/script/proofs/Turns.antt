@@ -1,7 +1,7 @@
 -- Each turn of reading goes on by three bytes at least, so as many turns as bytes are enough.
-use Rattle.std.proofs.Common.{◌≡◌, ℕ, zero, suc, ◌+◌, ◌-◌, ◌*◌, ◌≤◌, List, length, take, refl, ◌∙◌, arith}
+use Rattle.std.proofs.Common.{◌≡◌, ℕ, zero, suc, ◌+◌, ◌-◌, ◌*◌, ◌≤◌, List, length, refl, ◌∙◌, arith}
 use Rattle.script.specs.Format.{Parsed, end, refused, found, item_at}
-use Rattle.script.specs.Laws.{GoesOn, Ends}
+use Rattle.script.specs.Laws.{GoesOn}
 use Rattle.script.specs.Scripts.{Script, go_on, read_for, read_from}
 use Rattle.script.proofs.Places.{none_left, Onward, item_onward}
 
@@ -30,10 +30,7 @@ go_on_short f at n end h short = omega arith
 go_on_short f at n (refused fault) h short = omega arith
 go_on_short f at n (found item next) h short = omega (arith, h.0, h.1, short next)
 
-items_short : (turns : ℕ) (s : List ℕ) (at : ℕ) → 3 * length (read_for turns s at).items ≤ length s - at
+pub items_short : (turns : ℕ) (s : List ℕ) (at : ℕ) → 3 * length (read_for turns s at).items ≤ length s - at
 items_short zero s at = omega arith
 items_short (suc turns) s at =
     go_on_short (read_for turns s) at (length s) (item_at s at) (item_onward s at) (items_short turns s)
-
-pub ends : Ends
-ends bytes = omega (arith, items_short (length (take 16384 bytes) - 0) (take 16384 bytes) 0)

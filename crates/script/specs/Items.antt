@@ -1,10 +1,11 @@
 -- What a script asks for: its records, with the data of a write as a list of bytes.
 use Rattle.std.specs.Prelude.{ℕ, List}
 use Rattle.units.specs.declared.mapping.Request.{Request}
+use Rattle.units.specs.declared.mapping.Sync.TheVariants.{ForCpu, ForCard}
 use Rattle.units.specs.declared.number.Card.{Card}
 use Rattle.units.specs.declared.number.DeviceAddress.{DeviceAddress}
 use Rattle.script.specs.declared.record.Record.{Record}
-use Rattle.script.specs.declared.record.Record.TheVariants.{Map, Unmap, SyncForCpu, SyncForCard, CpuWrite, CpuRead, CardWrite, CardRead}
+use Rattle.script.specs.declared.record.Record.TheVariants.{Map, Unmap, Sync, CpuWrite, CpuRead, CardWrite, CardRead}
 
 pub data Item : Type 0 where
   map : Request → Item
@@ -20,8 +21,8 @@ pub data Item : Type 0 where
 abbrev pub meant : Record → Item
 meant (Map r) = map r
 meant (Unmap c d a n) = unmap c d a n
-meant (SyncForCpu c a) = sync_for_cpu c a
-meant (SyncForCard c a) = sync_for_card c a
+meant (Sync ForCpu c a) = sync_for_cpu c a
+meant (Sync ForCard c a) = sync_for_card c a
 meant (CpuWrite a b) = cpu_write a b.now
 meant (CpuRead a n) = cpu_read a n
 meant (CardWrite c a b) = card_write c a b.now

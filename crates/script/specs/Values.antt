@@ -1,7 +1,9 @@
 -- What a record's value says, by its tag.
-use Rattle.std.specs.Prelude.{ℕ, ◌+◌, cond, ◌&&◌, List, length, drop, Ok, Err, Result, ◌==◌, nat_le, slice_index}
+use Rattle.std.specs.Prelude.{ℕ, ◌+◌, Bool, cond, ◌&&◌, List, length, drop, Ok, Err, Result, ◌==◌, nat_le, slice_index}
 use Rattle.units.specs.declared.fault.FaultKind.{FaultKind}
 use Rattle.units.specs.declared.fault.FaultKind.TheVariants.{UnknownTag, WrongSize}
+use Rattle.units.specs.declared.mapping.Sync.{Sync}
+use Rattle.units.specs.declared.mapping.Sync.TheVariants.{ForCpu, ForCard}
 use Rattle.units.specs.declared.number.Card.{Card}
 use Rattle.units.specs.declared.number.DeviceAddress.{DeviceAddress}
 use Rattle.script.specs.declared.record.Record.{Record}
@@ -21,9 +23,13 @@ told (Err k) = Err k
 abbrev pub sized : ℕ → List ℕ → Item → Reading
 sized n v item = cond (length v == n) (Ok item) (Err WrongSize)
 
--- an item whose value has 1 to 64 bytes of data after n others
+-- a value has 1 to 64 bytes of data after n others
+abbrev pub has_data : ℕ → List ℕ → Bool
+has_data n v = nat_le (n + 1) (length v) && nat_le (length v) (n + 64)
+
+-- an item whose value has data after n other bytes
 abbrev pub trailed : ℕ → List ℕ → Item → Reading
-trailed n v item = cond (nat_le (n + 1) (length v) && nat_le (length v) (n + 64)) (Ok item) (Err WrongSize)
+trailed n v item = cond (has_data n v) (Ok item) (Err WrongSize)
 
 -- the fields, by the place in the value where each begins
 abbrev pub byte : List ℕ → ℕ → ℕ
@@ -45,11 +51,13 @@ map_of v = sized 10 v (map (record { card = card v; direction = byte v 1; buffer
 abbrev pub unmap_of : List ℕ → Reading
 unmap_of v = sized 14 v (unmap (card v) (byte v 1) (device v 2) (word v 10))
 
-abbrev pub sync_for_cpu_of : List ℕ → Reading
-sync_for_cpu_of v = sized 9 v (sync_for_cpu (card v) (device v 1))
+-- the item that each of the two calls makes
+abbrev pub synced : Sync → Card → DeviceAddress → Item
+synced ForCpu c a = sync_for_cpu c a
+synced ForCard c a = sync_for_card c a
 
-abbrev pub sync_for_card_of : List ℕ → Reading
-sync_for_card_of v = sized 9 v (sync_for_card (card v) (device v 1))
+abbrev pub sync_of : Sync → List ℕ → Reading
+sync_of call v = sized 9 v (synced call (card v) (device v 1))
 
 abbrev pub cpu_write_of : List ℕ → Reading
 cpu_write_of v = trailed 4 v (cpu_write (word v 0) (drop 4 v))
@@ -68,8 +76,8 @@ abbrev pub item_of : ℕ → List ℕ → Reading
 item_of tag v =
     cond (tag == 1) (map_of v)
     (cond (tag == 2) (unmap_of v)
-    (cond (tag == 3) (sync_for_cpu_of v)
-    (cond (tag == 4) (sync_for_card_of v)
+    (cond (tag == 3) (sync_of ForCpu v)
+    (cond (tag == 4) (sync_of ForCard v)
     (cond (tag == 5) (cpu_write_of v)
     (cond (tag == 6) (cpu_read_of v)
     (cond (tag == 7) (card_write_of v)

@@ -1,27 +1,29 @@
-// Numbers in a record, lowest byte first.
-ghost use Rattle.std.specs.Prelude.{◌≡◌, ◌+◌, ◌≤◌, length, drop};
-ghost use Rattle.script.specs.Numbers.{little};
+// The fields of a record's value, by the place where each begins.
+ghost use Rattle.std.specs.Prelude.{◌≡◌, ◌+◌, ◌≤◌, length, take, drop};
+ghost use Rattle.script.specs.Values.{word, device};
 
-// The number that two bytes write from `at` on.
-pub fn u16_at(bytes: &[u8], at: usize) -> u16
-    requires { at + 2 ≤ length bytes.now }
-    ensures { result ≡ little 2 (drop at bytes.now) }
+use units::DeviceAddress;
+
+// An address in memory or a length: four bytes, lowest first.
+pub fn word_at(value: &[u8], at: usize) -> u32
+    requires { at + 4 ≤ length value.now }
+    ensures { result ≡ word value.now at }
 {
-    bytes[at] as u16 + 256 * bytes[at + 1] as u16
+    u32::from_le_bytes(bytes_at(value, at))
 }
 
-// The number that four bytes write from `at` on.
-pub fn u32_at(bytes: &[u8], at: usize) -> u32
-    requires { at + 4 ≤ length bytes.now }
-    ensures { result ≡ little 4 (drop at bytes.now) }
+// A device address: eight bytes, lowest first.
+pub fn device_at(value: &[u8], at: usize) -> DeviceAddress
+    requires { at + 8 ≤ length value.now }
+    ensures { result ≡ device value.now at }
 {
-    u16_at(bytes, at) as u32 + 65_536 * u16_at(bytes, at + 2) as u32
+    DeviceAddress(u64::from_le_bytes(bytes_at(value, at)))
 }
 
-// The number that eight bytes write from `at` on.
-pub fn u64_at(bytes: &[u8], at: usize) -> u64
-    requires { at + 8 ≤ length bytes.now }
-    ensures { result ≡ little 8 (drop at bytes.now) }
+// The N bytes from `at` on.
+fn bytes_at<const N: usize>(value: &[u8], at: usize) -> [u8; N]
+    requires { at + N ≤ length value.now }
+    ensures { result ≡ take N (drop at value.now) }
 {
-    u32_at(bytes, at) as u64 + 4_294_967_296 * u32_at(bytes, at + 4) as u64
+    value[at..at + N].try_into().unwrap()
 }

@@ -2,22 +2,19 @@
 ghost use Rattle.script.specs.Laws.{RoundTrip, GoesOn, Ends};
 
 // Items that fit their fields are read back as they were written, with no refusal.
-pub fn round_trip_stands() -> u8
+#[tactic(auto, using(crate::proofs::Encoded::round_trip))]
+pub fn round_trip_stands()
     ensures { RoundTrip }
-{
-    0
-}
+{}
 
 // Reading goes on from each record to the next, until the end or a refusal.
-pub fn reading_goes_on() -> u8
+#[tactic(auto, using(crate::proofs::Turns::goes_on))]
+pub fn reading_goes_on()
     ensures { GoesOn }
-{
-    0
-}
+{}
 
 // Reading ends: there are at most a third as many records as bytes.
-pub fn reading_ends() -> u8
+#[tactic(auto, using(crate::proofs::Turns::items_short))]
+pub fn reading_ends()
     ensures { Ends }
-{
-    0
-}
+{}

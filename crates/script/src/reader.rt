@@ -3,10 +3,12 @@ ghost use Rattle.std.specs.Prelude.{◌≡◌, ◌+◌, ◌≤◌, length, take,
 ghost use Rattle.script.specs.Format.{whole_end, standing, item_at, answer_of, on_from};
 ghost use Rattle.script.specs.Readers.{parsed, answered, script_of, place_of, ahead, Past, Forward};
 
-use crate::field::u16_at;
 use crate::record::Record;
 use crate::value::read_value;
 use units::{Fault, FaultKind};
+
+// The most bytes that a script has.
+const LONGEST: usize = 16_384;
 
 // A script that is lent, and how far it has been read.
 #[derive(Drop)]
@@ -17,13 +19,12 @@ pub struct Reader<'s> {
 
 impl<'s> Reader<'s> {
     // A reader at the start of a script, which is at most the first 16,384 bytes.
-    pub fn new(script: &'s [u8]) -> Reader<'s>
+    pub fn new(script: &'s [u8]) -> Self
         ensures whole { script_of result ≡ take 16384 script.now }
         ensures start { place_of result ≡ 0 }
     {
-        let script = first_bytes(script);
         Reader {
-            script,
+            script: first_bytes(script),
             position: 0,
         }
     }
@@ -42,40 +43,33 @@ impl<'s> Reader<'s> {
         ensures kept { script_of self.new ≡ script_of self.old }
         ensures forward { Forward result self.old self.new }
     {
-        let script = self.script;
-        match read_record(script, self.position)? {
-            None => Ok(None),
-            Some((record, next)) => {
-                self.position = next;
-                Ok(Some(record))
-            }
-        }
+        let Some((record, next)) = read_record(self.script, self.position)? else {
+            return Ok(None);
+        };
+        self.position = next;
+        Ok(Some(record))
     }
 }
 
 // What a script is: its first 16,384 bytes.
-fn first_bytes<'s>(script: &'s [u8]) -> &'s [u8]
+#[tactic(auto, using(std::proofs::lemmas::List::take_min))]
+fn first_bytes(script: &[u8]) -> &[u8]
     ensures { result.now ≡ take 16384 script.now }
 {
-    if script.len() > 16_384 {
-        &script[0..16_384]
-    } else {
-        script
-    }
+    &script[..LONGEST.min(script.len())]
 }
 
 // The record that begins at `at`, and where the next one begins.
-fn read_record<'s>(script: &'s [u8], at: usize) -> Result<Option<(Record<'s>, usize)>, Fault>
+fn read_record(script: &[u8], at: usize) -> Result<Option<(Record<'_>, usize)>, Fault>
     ensures is { parsed result ≡ item_at script.now at }
     ensures past { Past result at (length script.now) }
 {
     if at >= script.len() {
         return Ok(None);
     }
-    match whole_end(script, at) {
-        None => Err(FaultKind::CutShort.at(at as u64)),
-        Some(next) => whole_record(script, at, next),
-    }
+    let next = whole_end(script, at).ok_or(FaultKind::CutShort.at(at as u64))?;
+    let record = read_value(script[at], &script[at + 3..next]).map_err(|kind| kind.at(at as u64))?;
+    Ok(Some((record, next)))
 }
 
 // Where the record that begins at `at` ends, unless it is cut short.
@@ -84,91 +78,66 @@ fn whole_end(script: &[u8], at: usize) -> Option<usize>
     ensures is { result ≡ whole_end script.now at }
     ensures within { IfSome result (λ next. (at + 3 ≤ next) × (next ≤ length script.now)) }
 {
-    if script.len() < at + 3 {
+    let [_, low, high, ..] = &script[at..] else {
         return None;
-    }
-    let next = at + 3 + u16_at(script, at + 1) as usize;
-    if script.len() < next {
-        return None;
-    }
-    Some(next)
-}
-
-// The record from `at` to `next`, where the next one begins.
-fn whole_record<'s>(
-    script: &'s [u8],
-    at: usize,
-    next: usize,
-) -> Result<Option<(Record<'s>, usize)>, Fault>
-    requires { (at + 3 ≤ next) × (next ≤ length script.now) }
-    ensures is { parsed result ≡ standing script.now at (Some next) }
-    ensures past { Past result at (length script.now) }
-{
-    let value = &script[at + 3..next];
-    match read_value(script[at], value) {
-        Ok(record) => Ok(Some((record, next))),
-        Err(kind) => Err(kind.at(at as u64)),
-    }
+    };
+    let next = at + 3 + usize::from(u16::from_le_bytes([*low, *high]));
+    (next <= script.len()).then_some(next)
 }
 
 #[cfg(test)]
 mod tests {
     use super::*;
-    use std::test::Fail;
 
-    // The number of the refusal that ends a script, or 0, and its place, or the script's end.
-    fn ending(script: &[u8]) -> (u8, u64) {
+    // Where a script ends, or the number of the refusal that ends it and its place.
+    fn ending(script: &[u8]) -> Result<u64, (u8, u64)> {
         let mut reader = Reader::new(script);
-        loop {
-            match reader.next() {
-                Ok(Some(_)) => {}
-                Ok(None) => return (0, reader.position() as u64),
-                Err(fault) => return (fault.kind.number(), fault.place),
-            }
-        }
+        let refusal = |fault: Fault| (u8::from(fault.kind), fault.place);
+        while reader.next().map_err(refusal)?.is_some() {}
+        Ok(reader.position() as u64)
     }
 
     // Writes CPU reads one after another, each of 8 bytes.
     fn fill_with_reads(bytes: &mut [u8]) {
-        for i in 0..bytes.len() / 8 {
-            bytes[8 * i] = 6;
-            bytes[8 * i + 1] = 5;
+        for record in bytes.chunks_mut(8) {
+            if let [tag, length, ..] = record {
+                *tag = 6;
+                *length = 5;
+            }
         }
     }
 
     // A CPU write to 0x100 lends its two bytes.
     #[test]
-    fn reads_a_write(rt: HostRuntime) -> Result<(), Fail> {
+    fn reads_a_write(rt: HostRuntime) {
         let script = [5, 6, 0, 0, 1, 0, 0, 0x41, 0x42];
         let mut reader = Reader::new(&script);
-        let Ok(Some(Record::CpuWrite { address, bytes })) = reader.next() else {
-            return Err(Fail::new("no write"));
+        let write = Record::CpuWrite {
+            address: 0x100,
+            bytes: &[0x41, 0x42],
         };
-        assert_eq!(rt; address, 0x100);
-        assert!(rt; bytes.len() == 2);
-        assert_eq!(rt; bytes[0], 0x41);
-        assert_eq!(rt; bytes[1], 0x42);
-        Ok(())
+        assert_eq!(rt; reader.next(), Ok(Some(write)));
+        assert_eq!(rt; reader.next(), Ok(None));
     }
 
     // A cut header, a cut value, an unknown tag, and a wrong size in the second record.
     #[test]
     fn refuses(rt: HostRuntime) {
-        assert_eq!(rt; ending(&[5, 6]), (18, 0));
-        assert_eq!(rt; ending(&[9, 2, 0, 1]), (18, 0));
-        assert_eq!(rt; ending(&[9, 1, 0, 1]), (19, 0));
-        assert_eq!(rt; ending(&[6, 5, 0, 0, 0, 0, 0, 1, 6, 1, 0, 1]), (20, 8));
+        assert_eq!(rt; ending(&[5, 6]), Err((18, 0)));
+        assert_eq!(rt; ending(&[9, 2, 0, 1]), Err((18, 0)));
+        assert_eq!(rt; ending(&[9, 1, 0, 1]), Err((19, 0)));
+        assert_eq!(rt; ending(&[6, 5, 0, 0, 0, 0, 0, 1, 6, 1, 0, 1]), Err((20, 8)));
     }
 
     // A script may be empty; one that ends at the edge ends there whatever follows; what crosses the edge is cut short.
     #[test]
     fn ends(rt: HostRuntime) {
-        assert_eq!(rt; ending(&[]), (0, 0));
+        assert_eq!(rt; ending(&[]), Ok(0));
         let mut bytes = [0u8; 16_385];
         fill_with_reads(&mut bytes);
-        assert_eq!(rt; ending(&bytes[0..16_384]), (0, 16_384));
-        assert_eq!(rt; ending(&bytes), (0, 16_384));
+        assert_eq!(rt; ending(&bytes[0..16_384]), Ok(16_384));
+        assert_eq!(rt; ending(&bytes), Ok(16_384));
         bytes[16_377] = 6;
-        assert_eq!(rt; ending(&bytes), (18, 16_376));
+        assert_eq!(rt; ending(&bytes), Err((18, 16_376)));
     }
 }

@@ -1,8 +1,8 @@
 // One call of a script.
-use units::{Card, DeviceAddress, Request};
+use units::{Card, DeviceAddress, Request, Sync};
 
 // A record's fields; the bytes of a write are lent by the script.
-#[derive(Clone, Copy)]
+#[derive(Clone, Copy, Debug, PartialEq, Eq)]
 pub enum Record<'s> {
     Map(Request),
     Unmap {
@@ -11,11 +11,8 @@ pub enum Record<'s> {
         device: DeviceAddress,
         length: u32,
     },
-    SyncForCpu {
-        card: Card,
-        device: DeviceAddress,
-    },
-    SyncForCard {
+    Sync {
+        call: Sync,
         card: Card,
         device: DeviceAddress,
     },

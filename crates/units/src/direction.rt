@@ -2,7 +2,9 @@
 ghost use Rattle.std.specs.Prelude.{◌≡◌, Bool};
 ghost use Rattle.units.specs.Directions.{allows, code_of, coded, rights_of};
 
-#[derive(Clone, Copy)]
+use crate::fault::FaultKind;
+
+#[derive(Clone, Copy, Debug, PartialEq, Eq)]
 pub enum Direction {
     Both,
     ToCard,
@@ -10,43 +12,49 @@ pub enum Direction {
 }
 
 // What a card does with bytes that it reaches.
-#[derive(Clone, Copy)]
+#[derive(Clone, Copy, Debug, PartialEq, Eq)]
 pub enum Access {
     Read,
     Write,
 }
 
 // What a card may do with a page.
-#[derive(Clone, Copy)]
+#[derive(Clone, Copy, Debug, PartialEq, Eq)]
 pub struct Rights {
     pub read: bool,
     pub write: bool,
 }
 
-impl Direction {
-    // The number by which a call names the direction: 0, 1 or 2.
-    pub fn code(self) -> u8
-        ensures { result ≡ code_of self }
-    {
-        match self {
+// The number by which a call names the direction: 0, 1 or 2.
+impl From<Direction> for u8 {
+    ghost from_gives = { λ d n. n ≡ code_of d };
+
+    fn from(direction: Direction) -> u8 {
+        match direction {
             Direction::Both => 0,
             Direction::ToCard => 1,
             Direction::FromCard => 2,
         }
     }
+}
 
-    // The direction that a call names by 0, 1 or 2.
-    pub fn from_code(code: u8) -> Option<Direction>
-        ensures { result ≡ coded code }
-    {
+// The direction that a call names by 0, 1 or 2; another number names none.
+impl TryFrom<u8> for Direction {
+    type Error = FaultKind;
+
+    ghost try_from_gives = { λ code r. r ≡ coded code };
+
+    fn try_from(code: u8) -> Result<Direction, FaultKind> {
         match code {
-            0 => Some(Direction::Both),
-            1 => Some(Direction::ToCard),
-            2 => Some(Direction::FromCard),
-            _ => None,
+            0 => Ok(Direction::Both),
+            1 => Ok(Direction::ToCard),
+            2 => Ok(Direction::FromCard),
+            _ => Err(FaultKind::NoDirection),
         }
     }
+}
 
+impl Direction {
     // A card reads under both and to the card, and writes under both and from the card.
     pub fn rights(self) -> Rights
         ensures { result ≡ rights_of self }

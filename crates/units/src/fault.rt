@@ -3,7 +3,7 @@ ghost use Rattle.std.specs.Prelude.{◌≡◌, Bool};
 ghost use Rattle.units.specs.Faults.{number_of, is_block_kind, raised, raises};
 
 // The refusals, by their numbers; the place that each carries stands beside it.
-#[derive(Clone, Copy)]
+#[derive(Clone, Copy, Debug, PartialEq, Eq)]
 pub enum FaultKind {
     // There is no such card [card].
     NoCard = 1,
@@ -47,30 +47,28 @@ pub enum FaultKind {
     WrongSize = 20,
 }
 
-#[derive(Clone, Copy)]
+#[derive(Clone, Copy, Debug, PartialEq, Eq)]
 pub struct Fault {
     pub kind: FaultKind,
     pub layer: u32,
     pub place: u64,
 }
 
-impl FaultKind {
-    // The refusal's number, from 1 to 20.
-    pub fn number(self) -> u8
-        ensures { result ≡ number_of self }
-    {
-        self as u8
-    }
+// The refusal's number, from 1 to 20.
+impl From<FaultKind> for u8 {
+    ghost from_gives = { λ k n. n ≡ number_of k };
 
+    fn from(kind: FaultKind) -> u8 {
+        kind as u8
+    }
+}
+
+impl FaultKind {
     // A card's access was blocked: the reach is absent, or lacks the right.
     pub fn is_block(self) -> bool
         ensures { result ≡ is_block_kind self }
     {
-        match self {
-            FaultKind::Absent => true,
-            FaultKind::Lacking => true,
-            _ => false,
-        }
+        matches!(self, FaultKind::Absent | FaultKind::Lacking)
     }
 
     // The refusal at a place, as the layer that finds it tells it.
@@ -91,9 +89,8 @@ impl Fault {
         ensures { result ≡ raised self }
     {
         Fault {
-            kind: self.kind,
             layer: self.layer.saturating_add(1),
-            place: self.place,
+            ..self
         }
     }
 }
@@ -102,8 +99,5 @@ impl Fault {
 pub fn passed_on<T>(answer: Result<T, Fault>) -> Result<T, Fault>
     ensures { result ≡ raises answer }
 {
-    match answer {
-        Ok(value) => Ok(value),
-        Err(fault) => Err(fault.raise()),
-    }
+    answer.map_err(|fault| fault.raise())
 }

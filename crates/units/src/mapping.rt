@@ -7,7 +7,7 @@ use crate::direction::{Direction, Rights};
 use crate::number::{Card, DeviceAddress, Frame};
 
 // A map call: the direction is the caller's number, which may name none.
-#[derive(Clone, Copy)]
+#[derive(Clone, Copy, Debug, PartialEq, Eq)]
 pub struct Request {
     pub card: Card,
     pub direction: u8,
@@ -15,28 +15,28 @@ pub struct Request {
 }
 
 // Where a mapper puts a buffer: the device address of its first byte, and the memory address where the card finds that byte.
-#[derive(Clone, Copy)]
+#[derive(Clone, Copy, Debug, PartialEq, Eq)]
 pub struct Placement {
     pub device: DeviceAddress,
     pub landing: u32,
 }
 
 // Who may touch a mapped buffer's bytes.
-#[derive(Clone, Copy)]
+#[derive(Clone, Copy, Debug, PartialEq, Eq)]
 pub enum Holder {
     ByCard,
     ByCpu,
 }
 
 // The two calls that turn the holder.
-#[derive(Clone, Copy)]
+#[derive(Clone, Copy, Debug, PartialEq, Eq)]
 pub enum Sync {
     ForCpu,
     ForCard,
 }
 
 // An open mapping, as all above a mapper know it.
-#[derive(Clone, Copy)]
+#[derive(Clone, Copy, Debug, PartialEq, Eq)]
 pub struct Mapping {
     pub card: Card,
     pub direction: Direction,
@@ -46,11 +46,11 @@ pub struct Mapping {
     pub holder: Holder,
 }
 
-// What a card finds at a device page: nothing, or a frame with rights.
-#[derive(Clone, Copy)]
-pub enum Reach {
-    Nothing,
-    Reaches(Frame, Rights),
+// What a card reaches at a device page: a frame, and what it may do there.
+#[derive(Clone, Copy, Debug, PartialEq, Eq)]
+pub struct Reach {
+    pub frame: Frame,
+    pub rights: Rights,
 }
 
 impl Holder {

@@ -1,20 +1,21 @@
 // What is numbered: each kind of number is a type of its own, so that one never passes for another.
-ghost use Rattle.std.specs.Prelude.{◌≡◌, ◌+◌, ◌*◌, ◌/◌, ◌%◌, ◌<◌, Bool};
-ghost use Rattle.units.specs.Geometry.{in_range};
+ghost use Rattle.std.specs.Prelude.{◌≡◌, ◌+◌, ◌*◌, ◌/◌, ◌%◌, ◌<◌, Bool, true};
+ghost use Rattle.std.specs.List.{list_all};
+ghost use Rattle.units.specs.Geometry.{in_range, is_last};
 
 // A frame of main memory, 4,096 bytes.
-#[derive(Clone, Copy)]
+#[derive(Clone, Copy, Debug, PartialEq, Eq)]
 pub struct Frame(pub u32);
 
 // A page of a card's device address space, 4,096 bytes.
-#[derive(Clone, Copy)]
+#[derive(Clone, Copy, Debug, PartialEq, Eq)]
 pub struct DevicePage(pub u64);
 
 // What a card puts on the bus: device page times 4,096 plus offset.
-#[derive(Clone, Copy)]
+#[derive(Clone, Copy, Debug, PartialEq, Eq)]
 pub struct DeviceAddress(pub u64);
 
-#[derive(Clone, Copy)]
+#[derive(Clone, Copy, Debug, PartialEq, Eq)]
 pub struct Card(pub u8);
 
 impl Frame {
@@ -44,7 +45,7 @@ impl DeviceAddress {
 }
 
 // The numbers of a set-up: how many cards, the last device page of each, and how many frames of memory.
-#[derive(Clone, Copy)]
+#[derive(Clone, Copy, Debug, PartialEq, Eq)]
 pub struct Geometry {
     pub cards: u8,
     pub lasts: [DevicePage; 4],
@@ -60,16 +61,15 @@ impl Geometry {
             && self.cards <= 4
             && self.frames >= 1
             && self.frames <= 1024
-            && is_last(self.cards > 0, self.lasts[0])
-            && is_last(self.cards > 1, self.lasts[1])
-            && is_last(self.cards > 2, self.lasts[2])
-            && is_last(self.cards > 3, self.lasts[3])
+            && are_last_pages(&self.lasts[..self.cards as usize])
     }
 }
 
-// The page may be a card's last, where there is such a card.
-fn is_last(card: bool, page: DevicePage) -> bool
-    ensures { result ≡ Rattle.units.specs.Geometry.is_last card page.0 }
+// Each page may be a card's last.
+fn are_last_pages(pages: &[DevicePage]) -> bool
+    ensures { result ≡ list_all (λ p. is_last true p.0) pages.now }
 {
-    !card || page.0 >= 1 && page.0 < 0x10_0000_0000
+    pages
+        .iter()
+        .all(|page| page.0 >= 1 && page.0 < 0x10_0000_0000)
 }

@@ -3,7 +3,7 @@ use crate::fault::FaultKind;
 use crate::number::DeviceAddress;
 
 // A blocked access: where it started, why it was blocked, and the level that blocked it.
-#[derive(Clone, Copy)]
+#[derive(Clone, Copy, Debug, PartialEq, Eq)]
 pub struct Block {
     pub device: DeviceAddress,
     pub kind: FaultKind,
@@ -11,7 +11,7 @@ pub struct Block {
 }
 
 // How many accesses of a card were blocked, and the latest of them.
-#[derive(Clone, Copy)]
+#[derive(Clone, Copy, Debug, PartialEq, Eq)]
 pub struct Report {
     pub count: u32,
     pub latest: Option<Block>,

@@ -7,7 +7,7 @@ use Rattle.units.specs.declared.mapping.Request.{Request}
 use Rattle.units.specs.declared.number.Geometry.{Geometry}
 use Rattle.units.specs.Buffers.{span}
 use Rattle.units.specs.declared.fault.FaultKind.TheVariants.{NoPages, NoRecord, WrongSetup}
-use Rattle.units.specs.Faults.{is_choice_kind, number_of}
+use Rattle.units.specs.Faults.{is_choice_kind}
 use Rattle.units.specs.Geometry.{is_last, last_page, in_range}
 use Rattle.chooser.specs.Finding.{choice}
 use Rattle.chooser.proofs.Answer.{choice_none, choice_some}
@@ -25,7 +25,7 @@ use Rattle.pages.proofs.Laws.{disjoint, landed, bounds, kept}
 use Rattle.pages.proofs.Facts.{lawful_uninsert, key_apart}
 use Rattle.pages.proofs.Taking.{first_page_lem, grown}
 use Rattle.window_table.specs.declared.window.Window.{Window}
-use Rattle.window_table.specs.Choosing.{setup_of, granted, setup_number, told_by, no_pages_for, no_window, on_page_found, window_choice, window_kind, Chooses}
+use Rattle.window_table.specs.Choosing.{setup_of, granted, setup_refusal, told_by, no_pages_for, no_window, on_page_found, window_choice, window_kind, Chooses}
 use Rattle.window_table.specs.Slots.{opened_of, reach_in, all_pages}
 use Rattle.window_table.proofs.Slots.{reach_windows, pages_same, pages_back}
 
@@ -173,11 +173,11 @@ granted_ranged g = go (in_range g) refl
     go true e = (range_facts g e).0
     go false e = (omega arith, omega arith, λ c h. absurd (omega arith))
 
-pub granted_told : (g : Geometry) → told_by (granted g) ≡ setup_number g
+pub granted_told : (g : Geometry) → told_by (granted g) ≡ setup_refusal g
 granted_told g = go (in_range g) refl
   where
-    go : (b : Bool) → in_range g ≡ b → told_by (cond b g (record { cards = 0; lasts = g.lasts; frames = 0 })) ≡ cond b 0 (number_of WrongSetup)
-    go true e = cond-true (ltb 0 g.cards) 0 (number_of WrongSetup) (lt-ltb 0 g.cards (range_facts g e).1)
+    go : (b : Bool) → in_range g ≡ b → told_by (cond b g (record { cards = 0; lasts = g.lasts; frames = 0 })) ≡ cond b None (Some WrongSetup)
+    go true e = cond-true (ltb 0 g.cards) None (Some WrongSetup) (lt-ltb 0 g.cards (range_facts g e).1)
     go false e = refl
 
 pub fresh : (S : Setup) → lawful S [] ≡ true

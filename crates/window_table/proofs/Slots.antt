@@ -3,7 +3,6 @@ use Rattle.std.proofs.Common.{◌≡◌, ℕ, zero, suc, ◌<◌, ◌≤◌, Boo
 use Rattle.std.proofs.lemmas.Bool.{eqb-true, eq-eqb, cond-true, cond-false, cases_Bool, both_ways}
 use Rattle.units.specs.declared.mapping.Holder.{Holder}
 use Rattle.units.specs.declared.mapping.Mapping.{Mapping}
-use Rattle.units.specs.declared.mapping.Reach.TheVariants.{Nothing}
 use Rattle.units.specs.declared.number.DevicePage.{DevicePage}
 use Rattle.chooser.specs.declared.gap.Range.{Range}
 use Rattle.chooser.specs.Gaps.{Holds, Untouched}
@@ -189,12 +188,12 @@ reach_windows c p (x ∷ xs) one = go x.mapping one (λ k. reach_windows c p xs 
     go : (f : Option Mapping) → ((m n : Mapping) → In m (on_found f (opened_of xs) (λ k. insert k (opened_of xs))) → In n (on_found f (opened_of xs) (λ k. insert k (opened_of xs)))
         → on_page c p m ≡ true → on_page c p n ≡ true → n ≡ m)
         → (((m n : Mapping) → In m (opened_of xs) → In n (opened_of xs) → on_page c p m ≡ true → on_page c p n ≡ true → n ≡ m) → reach_in xs c p ≡ reach_of (opened_of xs) c p)
-        → cond (on_found f false (on_page c p)) (on_found f Nothing (λ m. cond (on_page c p m) (reach_through m p) Nothing)) (reach_in xs c p) ≡ reach_of (on_found f (opened_of xs) (λ k. insert k (opened_of xs))) c p
+        → cond (on_found f false (on_page c p)) (on_found f None (λ m. cond (on_page c p m) (reach_through m p) None)) (reach_in xs c p) ≡ reach_of (on_found f (opened_of xs) (λ k. insert k (opened_of xs))) c p
     go None u later = later u
     go (Some m) u later = elim (cases_Bool (on_page c p m)) [
-      | inl e ↦ (cond-true (on_page c p m) (cond (on_page c p m) (reach_through m p) Nothing) (reach_in xs c p) e ∙ cond-true (on_page c p m) (reach_through m p) Nothing e
+      | inl e ↦ (cond-true (on_page c p m) (cond (on_page c p m) (reach_through m p) None) (reach_in xs c p) e ∙ cond-true (on_page c p m) (reach_through m p) None e
           ∙ sym (reach_of_in c p (insert m (opened_of xs)) m (insert_in m (opened_of xs)) e (λ n i. u m n (insert_in m (opened_of xs)) i e)))
-      | inr e ↦ (cond-false (on_page c p m) (cond (on_page c p m) (reach_through m p) Nothing) (reach_in xs c p) e
+      | inr e ↦ (cond-false (on_page c p m) (cond (on_page c p m) (reach_through m p) None) (reach_in xs c p) e
           ∙ later (λ n k i j. u n k (insert_keeps m n (opened_of xs) i) (insert_keeps m k (opened_of xs) j)) ∙ sym (reach_insert_other c p m (opened_of xs) e))
     ]
 

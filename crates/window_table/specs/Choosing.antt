@@ -1,11 +1,11 @@
 -- Set-up and choice of the window mapper.
 use Rattle.std.specs.Prelude.{◌≡◌, ℕ, ◌<◌, ◌≤◌, cond, ◌⊎◌, List, [], length, Some, None, Ok, Err, Option, nat_le, nat_lt}
+use Rattle.units.specs.declared.fault.FaultKind.{FaultKind}
 use Rattle.units.specs.declared.fault.FaultKind.TheVariants.{NoPages, NoRecord, WrongSetup}
 use Rattle.units.specs.declared.mapping.Mapping.{Mapping}
 use Rattle.units.specs.declared.mapping.Request.{Request}
 use Rattle.units.specs.declared.number.Geometry.{Geometry}
 use Rattle.units.specs.Buffers.{span}
-use Rattle.units.specs.Faults.{number_of}
 use Rattle.units.specs.Geometry.{in_range}
 use Rattle.chooser.specs.Gaps.{Chosen, NoRoom}
 use Rattle.meaning.specs.Worlds.{Setup, last_of, Kind, Choice}
@@ -19,13 +19,13 @@ setup_of g = record { cards = g.cards; lasts = g.lasts; frames = g.frames; fixed
 abbrev pub granted : Geometry → Geometry
 granted g = cond (in_range g) g (record { cards = 0; lasts = g.lasts; frames = 0 })
 
--- the number that a set-up with these numbers tells
-abbrev pub setup_number : Geometry → ℕ
-setup_number g = cond (in_range g) 0 (number_of WrongSetup)
+-- why a set-up with these numbers is refused, if it is
+abbrev pub setup_refusal : Geometry → Option FaultKind
+setup_refusal g = cond (in_range g) None (Some WrongSetup)
 
--- the number that windows with these numbers tell
-abbrev pub told_by : Geometry → ℕ
-told_by g = cond (nat_lt 0 g.cards) 0 (number_of WrongSetup)
+-- the refusal that windows with these numbers tell, if any
+abbrev pub told_by : Geometry → Option FaultKind
+told_by g = cond (nat_lt 0 g.cards) None (Some WrongSetup)
 
 -- no gap of device pages holds n
 abbrev pub no_pages_for : ℕ → Choice

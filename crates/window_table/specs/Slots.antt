@@ -1,8 +1,7 @@
 -- What the windows hold, as open mappings, as reach and as pages in use.
-use Rattle.std.specs.Prelude.{ℕ, Bool, true, false, cond, List, [], ◌∷◌, Some, None, ◌==◌}
+use Rattle.std.specs.Prelude.{ℕ, Bool, true, false, cond, List, [], ◌∷◌, Some, None, Option, ◌==◌}
 use Rattle.units.specs.declared.mapping.Mapping.{Mapping}
 use Rattle.units.specs.declared.mapping.Reach.{Reach}
-use Rattle.units.specs.declared.mapping.Reach.TheVariants.{Nothing}
 use Rattle.units.specs.declared.number.DevicePage.{DevicePage}
 use Rattle.chooser.specs.declared.gap.Range.{Range}
 use Rattle.meaning.specs.Mappings.{insert, on_page, reach_through}
@@ -30,12 +29,12 @@ opened_of [] = []
 opened_of (w ∷ ws) = on_found w.mapping (opened_of ws) (λ m. insert m (opened_of ws))
 
 -- what card c reaches through the window at page p
-abbrev pub reach_by : ℕ → ℕ → Window → Reach
-reach_by c p w = on_found w.mapping Nothing (λ m. cond (on_page c p m) (reach_through m p) Nothing)
+abbrev pub reach_by : ℕ → ℕ → Window → Option Reach
+reach_by c p w = on_found w.mapping None (λ m. cond (on_page c p m) (reach_through m p) None)
 
 -- an access is judged by the window with its card and page
-unfoldable pub reach_in : List Window → ℕ → ℕ → Reach
-reach_in [] c p = Nothing
+unfoldable pub reach_in : List Window → ℕ → ℕ → Option Reach
+reach_in [] c p = None
 reach_in (w ∷ ws) c p = cond (has (on_page c p) w) (reach_by c p w) (reach_in ws c p)
 
 abbrev pub no_pages : Range DevicePage

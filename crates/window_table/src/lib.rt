@@ -1,7 +1,6 @@
 // The fixed table of 8 windows, each with one open mapping.
 #![tactic(auto)]
 
-mod finding;
 mod table;
 mod window;
 

@@ -7,12 +7,11 @@ ghost use Rattle.pages.specs.Lawful.{lawful};
 ghost use Rattle.window_table.specs.Left.{OneChanged};
 ghost use Rattle.window_table.specs.Slots.{opened_of, all_pages};
 
-use crate::finding::{HasPage, HoldsByte, IsFree, StartsAt, first};
 use crate::window::Window;
 use chooser::Range;
 use units::{Card, DeviceAddress, DevicePage, Holder, Mapping, Reach};
 
-#[derive(Clone, Copy)]
+#[derive(Clone, Copy, Debug, PartialEq, Eq)]
 pub struct WindowTable {
     pub windows: [Window; 8],
 }
@@ -22,54 +21,49 @@ impl WindowTable {
     pub fn count(&self) -> u32
         ensures { result ≡ length (opened_of self.now.windows) }
     {
-        count_held(&self.windows)
+        let held = self.windows.iter().filter(|window| !window.is_free());
+        held.count() as u32
     }
 
     // All 8 windows hold a mapping.
     pub fn is_full(&self) -> bool
         ensures { result ≡ nat_le 8 (length (opened_of self.now.windows)) }
     {
-        match first(&self.windows, &IsFree) {
-            Some(_) => false,
-            None => true,
-        }
+        !self.windows.iter().any(|window| window.is_free())
     }
 
     // The pages of the card that each window takes.
     pub fn used_pages(&self, card: Card) -> [Range<DevicePage>; 8]
         ensures { result ≡ all_pages card.0 self.now.windows }
     {
-        pages_in(&self.windows, card)
+        self.windows.map(|window| window.pages(card))
     }
 
     // The mapping of the card that starts at the device address.
     pub fn mapping_at(&self, card: Card, device: DeviceAddress) -> Option<Mapping>
         ensures { (S : Setup) → lawful S (opened_of self.now.windows) ≡ true → result ≡ find (opened_of self.now.windows) card.0 device.0 }
     {
-        match first(&self.windows, &StartsAt { card, device }) {
-            Some(i) => self.windows[i].mapping,
-            None => None,
-        }
+        self.windows
+            .iter()
+            .find(|window| window.starts_at(card, device))?
+            .mapping
     }
 
     // A card holds the byte.
     pub fn is_held(&self, address: u32) -> bool
         ensures { result ≡ held (opened_of self.now.windows) address }
     {
-        match first(&self.windows, &HoldsByte { address }) {
-            Some(_) => true,
-            None => false,
-        }
+        self.windows.iter().any(|window| window.holds_byte(address))
     }
 
     // What the card reaches at the device page.
-    pub fn reach(&self, card: Card, page: DevicePage) -> Reach
+    pub fn reach(&self, card: Card, page: DevicePage) -> Option<Reach>
         ensures { (S : Setup) → lawful S (opened_of self.now.windows) ≡ true → result ≡ reach_of (opened_of self.now.windows) card.0 page.0 }
     {
-        match first(&self.windows, &HasPage { card, page }) {
-            Some(i) => self.windows[i].reach(card, page),
-            None => Reach::Nothing,
-        }
+        self.windows
+            .iter()
+            .find(|window| window.has_page(card, page))?
+            .reach(card, page)
     }
 
     // A free window takes the mapping, if there is one.
@@ -77,9 +71,8 @@ impl WindowTable {
         ensures opens { length (opened_of self.old.windows) < 8 → ((n : Opened) → In n (opened_of self.old.windows) → key n ≢ key mapping) → opened_of self.new.windows ≡ insert mapping (opened_of self.old.windows) }
         ensures one { OneChanged self.old.windows self.new.windows }
     {
-        if let Some(i) = first(&self.windows, &IsFree) {
-            let window = &mut self.windows[i];
-            window.open(mapping);
+        if let Some(i) = self.windows.iter().position(|window| window.is_free()) {
+            self.windows[i].open(mapping);
         }
     }
 
@@ -88,9 +81,12 @@ impl WindowTable {
         ensures closes { (S : Setup) → lawful S (opened_of self.old.windows) ≡ true → opened_of self.new.windows ≡ remove card.0 device.0 (opened_of self.old.windows) }
         ensures one { OneChanged self.old.windows self.new.windows }
     {
-        if let Some(i) = first(&self.windows, &StartsAt { card, device }) {
-            let window = &mut self.windows[i];
-            window.close();
+        if let Some(i) = self
+            .windows
+            .iter()
+            .position(|window| window.starts_at(card, device))
+        {
+            self.windows[i].close();
         }
     }
 
@@ -99,38 +95,12 @@ impl WindowTable {
         ensures turns { (S : Setup) → lawful S (opened_of self.old.windows) ≡ true → opened_of self.new.windows ≡ turn holder card.0 device.0 (opened_of self.old.windows) }
         ensures one { OneChanged self.old.windows self.new.windows }
     {
-        if let Some(i) = first(&self.windows, &StartsAt { card, device }) {
-            let window = &mut self.windows[i];
-            window.turn(holder);
+        if let Some(i) = self
+            .windows
+            .iter()
+            .position(|window| window.starts_at(card, device))
+        {
+            self.windows[i].turn(holder);
         }
     }
-}
-
-// How many windows hold a mapping.
-fn count_held(windows: &[Window]) -> u32
-    requires { length windows.now ≤ 8 }
-    ensures { result ≡ length (opened_of windows.now) }
-{
-    let mut count = 0;
-    for window in windows {
-        if window.mapping.is_some() {
-            count += 1;
-        }
-    }
-    count
-}
-
-// The pages of the card that each of 8 windows takes.
-fn pages_in(windows: &[Window], card: Card) -> [Range<DevicePage>; 8]
-    requires { length windows.now ≡ 8 }
-    ensures { result ≡ all_pages card.0 windows.now }
-{
-    let mut used = [Range {
-        first: DevicePage(0),
-        count: 0,
-    }; 8];
-    for i in 0..8 {
-        used[i] = windows[i].pages(card);
-    }
-    used
 }

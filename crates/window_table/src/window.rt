@@ -1,14 +1,14 @@
 // One window: free, or with one open mapping.
-ghost use Rattle.std.specs.Prelude.{◌≡◌, Some, None};
+ghost use Rattle.std.specs.Prelude.{◌≡◌, ◌&&◌, Some, None};
 ghost use Rattle.units.specs.declared.mapping.Mapping.{Mapping as Opened};
-ghost use Rattle.meaning.specs.Mappings.{turned};
-ghost use Rattle.window_table.specs.Slots.{free_window, holding, pages_in, reach_by};
+ghost use Rattle.meaning.specs.Mappings.{card_holds, covers, on_page, starts, turned};
+ghost use Rattle.window_table.specs.Slots.{free_window, has, holding, is_free, pages_in, reach_by};
 
 use chooser::Range;
-use meaning::reach_by;
-use units::{Card, DevicePage, Holder, Mapping, Reach};
+use meaning::{is_held_at, is_on_page, reach_by, starts_at};
+use units::{Card, DeviceAddress, DevicePage, Holder, Mapping, Reach};
 
-#[derive(Clone, Copy)]
+#[derive(Clone, Copy, Debug, PartialEq, Eq)]
 pub struct Window {
     pub mapping: Option<Mapping>,
 }
@@ -32,16 +32,40 @@ impl Window {
     pub fn turn(&mut self, holder: Holder)
         ensures { (m : Opened) → self.old.mapping ≡ Some m → self.new ≡ holding (turned holder m) }
     {
-        if let Some(m) = self.mapping {
-            self.mapping = Some(Mapping {
-                card: m.card,
-                direction: m.direction,
-                buffer: m.buffer,
-                device: m.device,
-                landing: m.landing,
-                holder,
-            });
+        if let Some(mapping) = &mut self.mapping {
+            mapping.holder = holder;
         }
+    }
+
+    // The window holds no mapping.
+    pub(crate) fn is_free(&self) -> bool
+        ensures { result ≡ is_free self.now }
+    {
+        self.mapping.is_none()
+    }
+
+    // Its mapping starts at the card's device address.
+    pub(crate) fn starts_at(&self, card: Card, device: DeviceAddress) -> bool
+        ensures { result ≡ has (starts card.0 device.0) self.now }
+    {
+        self.mapping
+            .is_some_and(|mapping| starts_at(&mapping, card, device))
+    }
+
+    // Its mapping has the card's device page.
+    pub(crate) fn has_page(&self, card: Card, page: DevicePage) -> bool
+        ensures { result ≡ has (on_page card.0 page.0) self.now }
+    {
+        self.mapping
+            .is_some_and(|mapping| is_on_page(&mapping, card, page))
+    }
+
+    // The byte is in its buffer, and the card holds that.
+    pub(crate) fn holds_byte(&self, address: u32) -> bool
+        ensures { result ≡ has (λ m. card_holds m.holder && covers m address) self.now }
+    {
+        self.mapping
+            .is_some_and(|mapping| is_held_at(&mapping, address))
     }
 
     // The pages of the card that the window takes.
@@ -49,20 +73,11 @@ impl Window {
         ensures { result ≡ pages_in card.0 self.now }
     {
         match self.mapping {
-            Some(m) => {
-                if m.card.0 == card.0 {
-                    Range {
-                        first: m.device.page(),
-                        count: m.buffer.span(),
-                    }
-                } else {
-                    Range {
-                        first: DevicePage(0),
-                        count: 0,
-                    }
-                }
-            }
-            None => Range {
+            Some(mapping) if mapping.card == card => Range {
+                first: mapping.device.page(),
+                count: mapping.buffer.span(),
+            },
+            _ => Range {
                 first: DevicePage(0),
                 count: 0,
             },
@@ -70,12 +85,10 @@ impl Window {
     }
 
     // What the card reaches through the window at a device page.
-    pub fn reach(&self, card: Card, page: DevicePage) -> Reach
+    pub fn reach(&self, card: Card, page: DevicePage) -> Option<Reach>
         ensures { result ≡ reach_by card.0 page.0 self.now }
     {
-        match self.mapping {
-            Some(mapping) => reach_by(&mapping, card, page),
-            None => Reach::Nothing,
-        }
+        self.mapping
+            .and_then(|mapping| reach_by(&mapping, card, page))
     }
 }

@@ -20,14 +20,12 @@ use Rattle.mapper.specs.Called.{here, seen, Called}
 use Rattle.mapper.proofs.Calling.{refused, passed}
 use Rattle.pages.specs.Lawful.{lawful}
 use Rattle.pages.proofs.Facts.{lawful_facts}
-use Rattle.window_table.specs.Choosing.{setup_of, window_choice, window_kind}
+use Rattle.window_table.specs.Choosing.{setup_of, window_choice}
 use Rattle.window_table.specs.Left.{WindowsLeft}
 use Rattle.window_table.specs.Slots.{opened_of}
 use Rattle.window_table.proofs.Laws.{choice_room, choice_lawful, choice_new}
+use Rattle.windows.specs.contracts.laws.WindowsMeaning.TheImpl.{ghosts as means}
 use Rattle.windows.specs.declared.windows.Windows.{Windows}
-
-abbrev pub sound_of : Windows → Type 0
-sound_of w = Unit {0}
 
 abbrev pub setup_in : Windows → Setup
 setup_in w = setup_of w.geometry
@@ -39,10 +37,10 @@ abbrev pub left_in : Windows → Task → Windows → Type 0
 left_in w t v = WindowsLeft w.table.windows t v.table.windows
 
 abbrev Done : Windows → Windows → List ℕ → Call → Answer → Type 0
-Done w v x c a = Called window_kind sound_of setup_in open_in left_in w v x x c a
+Done w v x c a = Called means w v x x c a
 
-pub refused_call : (w : Windows) (x : List ℕ) (c : Call) (f : Fault) → verdict (here window_kind setup_in w x) (open_in w) c ≡ errs f → Done w w x c (fails f)
-refused_call w x c f e = refused window_kind sound_of setup_in open_in left_in w x c f tt e
+pub refused_call : (w : Windows) (x : List ℕ) (c : Call) (f : Fault) → verdict (here means w x) (open_in w) c ≡ errs f → Done w w x c (fails f)
+refused_call w x c f e = refused means w x c f e
 
 -- memory that stays, since each buffer lands at its own address
 stays_found : (w : Windows) (c v : ℕ) (m : Mapping) (x : Bytes) (f : Mapping → Bytes) → find (open_in w) c v ≡ Some m → f m ≡ x → x ≡ on_found (find (open_in w) c v) x f
@@ -52,22 +50,22 @@ own : (w : Windows) (c v : ℕ) (m : Mapping) → find (open_in w) c v ≡ Some 
 own w c v m e = ((lawful_facts (setup_in w) (open_in w) w.kept).each m (find_is_in c v (open_in w) m e)).own
 
 module _ (w v : Windows) (x : List ℕ) (same : v.geometry ≡ w.geometry) where
-  pub closed_call : (c d a n : ℕ) (m : Mapping) → unmap_checks (here window_kind setup_in w x) (open_in w) c d a n ≡ fine → find (open_in w) c a ≡ Some m
+  pub closed_call : (c d a n : ℕ) (m : Mapping) → unmap_checks (here means w x) (open_in w) c d a n ≡ fine → find (open_in w) c a ≡ Some m
       → open_in v ≡ remove c a (open_in w) → left_in w (closes c a) v → Done w v x (unmap c d a n) done
   unfolding verdict
-  closed_call c d a n m e f o l = passed window_kind sound_of setup_in open_in left_in w v x x (unmap c d a n) done tt (ap setup_of same) e refl o
+  closed_call c d a n m e f o l = passed means w v x x (unmap c d a n) done (ap setup_of same) e refl o
       (stays_found w c a m (bytes_of x) (λ k. copy_at_unmap k (bytes_of x)) f (own_unmap m (own w c a m f) (bytes_of x))) l
 
-  pub turned_call : (s : Sync) (c a : ℕ) (m : Mapping) → sync_checks (here window_kind setup_in w x) (open_in w) s c a ≡ fine → find (open_in w) c a ≡ Some m
+  pub turned_call : (s : Sync) (c a : ℕ) (m : Mapping) → sync_checks (here means w x) (open_in w) s c a ≡ fine → find (open_in w) c a ≡ Some m
       → open_in v ≡ turn (holder_after s) c a (open_in w) → left_in w (turns s c a) v → Done w v x (sync s c a) done
   unfolding verdict
-  turned_call s c a m e f o l = passed window_kind sound_of setup_in open_in left_in w v x x (sync s c a) done tt (ap setup_of same) e refl o
+  turned_call s c a m e f o l = passed means w v x x (sync s c a) done (ap setup_of same) e refl o
       (stays_found w c a m (bytes_of x) (λ k. copy_at_sync s k (bytes_of x)) f (own_sync m (own w c a m f) (bytes_of x) s)) l
 
-  pub opened_call : (r : Request) (p : Placement) → ((k : Verdict) → admitted (here window_kind setup_in w x) r k ≡ k) → window_choice (setup_in w) (open_in w) r ≡ Ok p
+  pub opened_call : (r : Request) (p : Placement) → ((k : Verdict) → admitted (here means w x) r k ≡ k) → window_choice (setup_in w) (open_in w) r ≡ Ok p
       → p.landing ≡ r.buffer.address → open_in v ≡ insert (new_mapping r p) (open_in w) → left_in w (opens r) v → Done w v x (map r) (at p.device.0)
   unfolding verdict
-  opened_call r p e f q o l = passed window_kind sound_of setup_in open_in left_in w v x x (map r) (at p.device.0) tt (ap setup_of same) (e _ ∙ ap chosen f)
+  opened_call r p e f q o l = passed means w v x x (map r) (at p.device.0) (ap setup_of same) (e _ ∙ ap chosen f)
       (sym (ap (λ (z : Choice). on_choice z done (λ k. at k.device.0)) f)) (o ∙ sym (ap (λ (z : Choice). on_choice z (open_in w) (λ k. insert (new_mapping r k) (open_in w))) f))
       (sym (ap (λ (z : Choice). on_choice z (bytes_of x) (λ k. copy_in (λ g. false) (new_mapping r k) (bytes_of x))) f ∙ own_in (new_mapping r p) q (bytes_of x))) l
 
@@ -75,27 +73,27 @@ module _ (w v : Windows) (x : List ℕ) (same : v.geometry ≡ w.geometry) where
 
 module _ (w : Windows) (x : List ℕ) (r : Request) where
   abbrev said_so : Verdict → Answer
-  said_so k = answered k (said (here window_kind setup_in w x) (seen (open_in w) x) (map r))
+  said_so k = answered k (said (here means w x) (seen (open_in w) x) (map r))
 
-  pub would_refuse : (f : Fault) → ((k : Verdict) → admitted (here window_kind setup_in w x) r k ≡ errs f) → fails f ≡ answer (here window_kind setup_in w x) (seen (open_in w) x) (map r)
+  pub would_refuse : (f : Fault) → ((k : Verdict) → admitted (here means w x) r k ≡ errs f) → fails f ≡ answer (here means w x) (seen (open_in w) x) (map r)
   unfolding verdict
   would_refuse f e = sym (ap said_so (e _))
 
-  pub would_fail : (f : Fault) → ((k : Verdict) → admitted (here window_kind setup_in w x) r k ≡ k) → window_choice (setup_in w) (open_in w) r ≡ Err f
-      → fails f ≡ answer (here window_kind setup_in w x) (seen (open_in w) x) (map r)
+  pub would_fail : (f : Fault) → ((k : Verdict) → admitted (here means w x) r k ≡ k) → window_choice (setup_in w) (open_in w) r ≡ Err f
+      → fails f ≡ answer (here means w x) (seen (open_in w) x) (map r)
   unfolding verdict
   would_fail f e h = sym (ap said_so (e _ ∙ ap chosen h))
 
-  pub would_place : (p : Placement) → ((k : Verdict) → admitted (here window_kind setup_in w x) r k ≡ k) → window_choice (setup_in w) (open_in w) r ≡ Ok p
-      → at p.device.0 ≡ answer (here window_kind setup_in w x) (seen (open_in w) x) (map r)
+  pub would_place : (p : Placement) → ((k : Verdict) → admitted (here means w x) r k ≡ k) → window_choice (setup_in w) (open_in w) r ≡ Ok p
+      → at p.device.0 ≡ answer (here means w x) (seen (open_in w) x) (map r)
   unfolding verdict
   would_place p e h = sym (ap said_so (e _ ∙ ap chosen h) ∙ ap (λ (z : Choice). on_choice z done (λ k. at k.device.0)) h)
 
 -- Map -----------------------------------------------------------------------------------------------------
 
-module _ (w : Windows) (x : List ℕ) (r : Request) (p : Placement) (e : (k : Verdict) → admitted (here window_kind setup_in w x) r k ≡ k) (f : window_choice (setup_in w) (open_in w) r ≡ Ok p) where
+module _ (w : Windows) (x : List ℕ) (r : Request) (p : Placement) (e : (k : Verdict) → admitted (here means w x) r k ≡ k) (f : window_choice (setup_in w) (open_in w) r ≡ Ok p) where
   pub still_lawful : lawful (setup_in w) (insert (new_mapping r p) (open_in w)) ≡ true
-  still_lawful = choice_lawful (setup_in w) (length x) (open_in w) r p (admitted_facts (here window_kind setup_in w x) r fine (e fine)) f w.kept
+  still_lawful = choice_lawful (setup_in w) (length x) (open_in w) r p (admitted_facts (here means w x) r fine (e fine)) f w.kept
 
   -- what the table holds once a free window took the mapping
   pub one_more : (m : Mapping) (o : List Mapping) → m ≡ new_mapping r p → (length (open_in w) < 8 → ((n : Mapping) → In n (open_in w) → key n ≡ key m → ⊥) → o ≡ insert m (open_in w)) → o ≡ insert (new_mapping r p) (open_in w)

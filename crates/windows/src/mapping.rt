@@ -12,36 +12,6 @@ use meaning::new_mapping;
 use units::{Access, Card, DeviceAddress, DevicePage, Fault, Frame, Mapping, Request, Sync};
 
 impl Mapper for Windows {
-    ghost sound = { λ w. Unit {0} };
-
-    ghost setup = { λ w. setup_of w.geometry };
-
-    ghost opened = { λ w. opened_of w.table.windows };
-
-    ghost reach = { λ w. reach_in w.table.windows };
-
-    ghost kind = { window_kind };
-
-    ghost leaves = { λ w t v. WindowsLeft w.table.windows t v.table.windows };
-
-    ghost possible = { Possible };
-
-    ghost standing = { λ w _. (w.ranged, w.kept) };
-
-    ghost kept = { window_kept };
-
-    ghost disjoint_pages = { window_disjoint };
-
-    ghost exact_reach = { λ w c p _. window_reach (setup_of w.geometry) w.table.windows w.kept c p };
-
-    ghost landing = { window_landing };
-
-    ghost empty_room = { window_room };
-
-    ghost refusals = { window_refusals };
-
-    ghost bounds = { window_bounds };
-
     fn cards(&self) -> u8 {
         self.geometry.cards
     }

@@ -3,10 +3,10 @@ ghost use Rattle.std.specs.Prelude.{◌≡◌, ℕ, ◌<◌, Bool, true, List, [
 ghost use Rattle.units.specs.declared.mapping.Mapping.{Mapping as Opened};
 ghost use Rattle.units.specs.declared.mapping.Request.{Request as RequestOf};
 ghost use Rattle.pages.specs.Lawful.{Ranged, lawful};
-ghost use Rattle.window_table.specs.Choosing.{granted, setup_number, setup_of, told_by, window_choice, Chooses};
+ghost use Rattle.window_table.specs.Choosing.{granted, setup_refusal, setup_of, told_by, window_choice, Chooses};
 ghost use Rattle.window_table.specs.Slots.{opened_of};
 
-use chooser::choose;
+use chooser::Space;
 use units::{DeviceAddress, DevicePage, Fault, FaultKind, Geometry, Placement, Request};
 use window_table::{Window, WindowTable};
 
@@ -22,7 +22,7 @@ impl Windows {
     // Windows with nothing open; where a number is out of range, with no cards and no frames. `choosing` tells how requests will be placed.
     pub fn set_up(geometry: Geometry) -> Windows
         ensures numbers { result.geometry ≡ granted geometry }
-        ensures number { told_by result.geometry ≡ setup_number geometry }
+        ensures refusal { told_by result.geometry ≡ setup_refusal geometry }
         ensures empty { opened_of result.table.windows ≡ [] }
         ensures choosing { (o : List Opened) (q : RequestOf) → 0 < q.buffer.length → Chooses (setup_of result.geometry) o q (window_choice (setup_of result.geometry) o q) }
     {
@@ -35,15 +35,11 @@ impl Windows {
         }
     }
 
-    // The number of the set-up: 0, or 16 where a number was out of range.
-    pub fn number(&self) -> u8
+    // Why the set-up was refused: a number was out of range.
+    pub fn refusal(&self) -> Option<FaultKind>
         ensures { result ≡ told_by self.now.geometry }
     {
-        if self.geometry.cards > 0 {
-            0
-        } else {
-            FaultKind::WrongSetup.number()
-        }
+        (self.geometry.cards == 0).then_some(FaultKind::WrongSetup)
     }
 
     // Where a request of a card would be put: the chooser's pages, and a window.
@@ -53,8 +49,12 @@ impl Windows {
         ensures { result ≡ window_choice (setup_of self.now.geometry) (opened_of self.now.table.windows) request }
     {
         let used = self.table.used_pages(request.card);
-        let last = self.geometry.lasts[request.card.0 as usize];
-        let page = choose(&DevicePage(1), &last, &used, request.buffer.span())?;
+        let pages = Space {
+            lo: DevicePage(1),
+            hi: self.geometry.lasts[request.card.0 as usize],
+            used: &used,
+        };
+        let page = pages.choose(request.buffer.span())?;
         if self.table.is_full() {
             return Err(FaultKind::NoRecord.at(8));
         }
@@ -75,8 +75,8 @@ fn accepted(geometry: Geometry) -> Geometry
     } else {
         Geometry {
             cards: 0,
-            lasts: geometry.lasts,
             frames: 0,
+            ..geometry
         }
     }
 }

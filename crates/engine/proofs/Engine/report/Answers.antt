@@ -10,7 +10,7 @@ returns-then-card-cards g c = λ x. search rules
 pub bounds-self-card : goal.bounds-self-card
 bounds-self-card g c =
     let m = c.args.self.now.mapper in
-    let four : (g.M.Mapper.setup m).cards ≤ 4 = (g.M.Mapper.bounds (g.M.Mapper.setup m) (g.M.Mapper.opened m) (g.M.Mapper.standing m c.requires)).cards in
+    let four : (g.M.Meaning.setup m).cards ≤ 4 = (g.M.Meaning.bounds (g.M.Meaning.setup m) (g.M.Meaning.opened m) (g.M.Meaning.standing m)).cards in
     search rules
 
 pub returns : goal.returns

@@ -1,19 +1,13 @@
-use Rattle.std.proofs.Common.{◌≡◌, ◌+◌, true, false, sym, ◌∙◌, arith}
+use Rattle.std.proofs.Common.{rules, refl, arith}
+use borrow.Author.Tests.{tests}
+use Rattle.std.proofs.lemmas.Iterator.{YieldsList-from_range}
+use Rattle.std.proofs.lemmas.Iterator.Search.{find_from_yields_List}
 use Rattle.units.specs.declared.fault.FaultKind.TheVariants.{ReservedFrame}
-use Rattle.mapper.proofs.Lowest.{passed, here, nowhere}
+use Rattle.mapper.proofs.Lowest.{lowest_of}
 use Rattle.mapper.proofs.Mapper.lowest_reserved.Goals as goal
 
-pub returns-then-is_reserved : goal.returns-then-is_reserved
-returns-then-is_reserved g c =
-    let such = g.Self.Mapper.kind.reserved (g.Self.Mapper.setup c.args.self.now) in
-    let yes : such (c.args.first + c.loop-i.i) ≡ true = sym c.is_reserved.ensures ∙ c.if-is_reserved.true in
-    here ReservedFrame such c.args.first c.args.count c.loop-i.i c.loop-i.invariant (omega arith) yes
-
-pub loop-i-preserved : goal.loop-i-preserved
-loop-i-preserved g c =
-    let such = g.Self.Mapper.kind.reserved (g.Self.Mapper.setup c.args.self.now) in
-    let other : such (c.args.first + c.loop-i.i) ≡ false = sym c.is_reserved.ensures ∙ c.if-is_reserved.false in
-    passed ReservedFrame such c.args.first c.args.count c.loop-i.i c.loop-i.invariant (omega arith) other
-
 pub returns : goal.returns
-returns g c = nowhere ReservedFrame (g.Self.Mapper.kind.reserved (g.Self.Mapper.setup c.args.self.now)) c.args.first c.args.count c.loop-i.i c.loop-i.invariant (omega arith)
+returns g c =
+    let such = g.Self.Meaning.kind.reserved (g.Self.Meaning.setup c.args.self.now) in
+    lowest_of ReservedFrame such c.args.first c.args.count c.find.result
+    (find_from_yields_List such _ _ c.find.result c.find.ensures.ran (YieldsList-from_range c.args.first _ c.args.count refl (omega arith)) (λ x b q k. search (rules, tests)))

@@ -1,17 +1,15 @@
-use Rattle.std.proofs.Common.{◌≡◌, refl, ap, ◌∙◌, arith}
-use Rattle.meaning.specs.Memory.{bytes_of}
-use Rattle.meaning.proofs.Part.{part, part_none, part_more, part_clear}
+use Rattle.std.proofs.Common.{ℕ, ◌-◌, cond, replicate, get_or, sym, ap, ◌∙◌, arith}
+use mathlib.Core.Path.{fun_ext}
+use Rattle.std.proofs.lemmas.List.{length-replicate}
+use Rattle.meaning.specs.Memory.{bytes_of, clear, within}
+use Rattle.meaning.proofs.Part.{part_length, put_bytes, zeros}
 use Rattle.meaning.proofs.moves.clear_bytes.Goals as goal
 
-pub loop-i-init : goal.loop-i-init
-loop-i-init c = part_none c.args.at (λ k. 0) c.args.memory.now
-
-pub loop-i-preserved : goal.loop-i-preserved
-loop-i-preserved c =
-    part_more c.args.at c.loop-i.i (λ k. 0) (bytes_of c.args.memory.now) c.loop-i.memory _ c.loop-i.invariant (omega arith) refl
-
 pub returns : goal.returns
+unfolding bytes_of clear
 returns c =
-    let e : c.loop-i.i ≡ c.args.count = omega arith in
-    let x = bytes_of c.args.memory.now in
-    c.loop-i.invariant ∙ ap (λ i. part c.args.at i (λ k. 0) x) e ∙ part_clear c.args.at c.args.count x
+    let m = c.args.memory.now in
+    let n = c.args.count in
+    let e = c.fill.ensures.after (λ y k. k) ∙ ap (λ (i : ℕ). replicate i 0) (part_length m c.args.at n _ (omega arith) c.requires) in
+    put_bytes m (replicate n 0) _ c.args.at _ n e (omega arith) (sym (length-replicate n 0)) c.requires
+    ∙ fun_ext (λ q. ap (λ z. cond (within c.args.at n q) z (get_or m q 0)) (zeros n (q - c.args.at)))

@@ -3,5 +3,5 @@ use Rattle.std.proofs.Common.{◌-◌, length}
 use Rattle.script.specs.Readers.{script_of, place_of}
 use Rattle.script.proofs.reader.tests.ending.Given as goal
 
-abbrev pub decreases-loop-reader : goal.decreases-loop-reader
-decreases-loop-reader l = length (script_of l.reader) - place_of l.reader
+abbrev pub decreases-loop : goal.decreases-loop
+decreases-loop l = length (script_of l.reader) - place_of l.reader

@@ -1,10 +1,21 @@
-use Rattle.window_table.proofs.Looking.{closed_at, not_closed, one_set, none_set}
+use Rattle.std.proofs.Common.{rules, ◌≡◌, true, false}
+use borrow.Author.Tests.{tests}
+use Rattle.std.proofs.lemmas.Iterator.{YieldsList-from_slice, IsFirst-from_position}
+use Rattle.meaning.specs.Mappings.{starts}
+use Rattle.window_table.specs.Slots.{has}
+use Rattle.window_table.proofs.Looking.{found_place, found_none, closed_at, not_closed}
 use Rattle.window_table.proofs.table.WindowTable.close.Goals as goal
 
-pub returns-in-Some : goal.returns-in-Some
-returns-in-Some c = let h = c.in-Some.ensures in let ws = c.args.self.now.windows in
-    record { closes = λ S e. closed_at S ws e c.in-Some.i h.0 c.args.card.0 c.args.device.0 c.close.new.self c.close.ensures h.1; one = one_set ws c.in-Some.i c.close.new.self }
+pub returns-in-Some-clause-closes : goal.returns-in-Some-clause-closes
+returns-in-Some-clause-closes c =
+    let ws = c.args.self.now.windows in
+    let such = has (starts c.args.card.0 c.args.device.0) in
+    let h = found_place such ws c.position.result c.in-Some.i c.in-Some.is (IsFirst-from_position _ _ c.position.result (λ w. such w ≡ true) (λ w. such w ≡ false) c.position.ensures.ran (YieldsList-from_slice c.args.self.now.windows cc) (λ x q k. search (rules, tests)) (λ x q k. search (rules, tests))) in
+    λ S e. closed_at S ws e c.in-Some.i h.0 c.args.card.0 c.args.device.0 c.close.new.self c.close.ensures h.1
 
-pub returns-in_default : goal.returns-in_default
-returns-in_default c = let ws = c.args.self.now.windows in
-    record { closes = λ S e. not_closed c.args.card.0 c.args.device.0 ws c.in_default.ensures; one = none_set ws }
+pub returns-in_default-clause-closes : goal.returns-in_default-clause-closes
+returns-in_default-clause-closes c =
+    let ws = c.args.self.now.windows in
+    let such = has (starts c.args.card.0 c.args.device.0) in
+    let h = found_none such ws c.position.result c.in_default.is (IsFirst-from_position _ _ c.position.result (λ w. such w ≡ true) (λ w. such w ≡ false) c.position.ensures.ran (YieldsList-from_slice c.args.self.now.windows cc) (λ x q k. search (rules, tests)) (λ x q k. search (rules, tests))) in
+    λ S e. not_closed c.args.card.0 c.args.device.0 ws h

@@ -1,10 +1,21 @@
-use Rattle.std.proofs.Common.{sym, ◌∙◌}
-use Rattle.window_table.proofs.Looking.{reached_at, not_reached}
+use Rattle.std.proofs.Common.{rules, ◌≡◌, true, false, sym, ap, ◌∙◌}
+use borrow.Author.Tests.{tests}
+use Rattle.std.proofs.lemmas.Iterator.{YieldsList-from_slice, first_from_find}
+use Rattle.meaning.specs.Mappings.{on_page}
+use Rattle.window_table.specs.Slots.{has, reach_by}
+use Rattle.window_table.proofs.Looking.{found_window, found_no_window, reached_at, not_reached}
 use Rattle.window_table.proofs.table.WindowTable.reach.Goals as goal
 
-pub returns-in-Some : goal.returns-in-Some
-returns-in-Some c = λ S e. let h = c.in-Some.ensures in
-    c.reach.ensures ∙ reached_at S c.args.self.now.windows e c.in-Some.i h.0 c.args.card.0 c.args.page.0 h.1
+pub returns-in_err-find : goal.returns-in_err-find
+returns-in_err-find c =
+    let ws = c.args.self.now.windows in
+    let such = has (on_page c.args.card.0 c.args.page.0) in
+    let f = found_no_window such ws c.find.result c.in_err-find.was (first_from_find _ _ c.find.result (λ w. such w ≡ true) (λ w. such w ≡ false) c.find.ensures.ran (YieldsList-from_slice ws cc) (λ x q k. search (rules, tests)) (λ x q k. search (rules, tests))) in
+    λ S e. c.from_residual.ensures ∙ sym (not_reached c.args.card.0 c.args.page.0 ws f)
 
-pub returns-in-None : goal.returns-in-None
-returns-in-None c = λ S e. sym (not_reached c.args.card.0 c.args.page.0 c.args.self.now.windows c.in-None.ensures)
+pub returns : goal.returns
+returns c =
+    let ws = c.args.self.now.windows in
+    let such = has (on_page c.args.card.0 c.args.page.0) in
+    let f = found_window such ws c.find.result c.in_ok-find.field-0 c.in_ok-find.was (first_from_find _ _ c.find.result (λ w. such w ≡ true) (λ w. such w ≡ false) c.find.ensures.ran (YieldsList-from_slice ws cc) (λ x q k. search (rules, tests)) (λ x q k. search (rules, tests))) in
+    λ S e. c.reach.ensures ∙ ap (reach_by c.args.card.0 c.args.page.0) (sym f.3) ∙ reached_at S ws e f.0 f.1 c.args.card.0 c.args.page.0 f.2

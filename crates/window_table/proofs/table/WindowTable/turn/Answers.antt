@@ -1,10 +1,21 @@
-use Rattle.window_table.proofs.Looking.{turned_at, not_turned, one_set, none_set}
+use Rattle.std.proofs.Common.{rules, ◌≡◌, true, false}
+use borrow.Author.Tests.{tests}
+use Rattle.std.proofs.lemmas.Iterator.{YieldsList-from_slice, IsFirst-from_position}
+use Rattle.meaning.specs.Mappings.{starts}
+use Rattle.window_table.specs.Slots.{has}
+use Rattle.window_table.proofs.Looking.{found_place, found_none, turned_at, not_turned}
 use Rattle.window_table.proofs.table.WindowTable.turn.Goals as goal
 
-pub returns-in-Some : goal.returns-in-Some
-returns-in-Some c = let h = c.in-Some.ensures in let ws = c.args.self.now.windows in
-    record { turns = λ S e. turned_at S ws e c.in-Some.i h.0 c.args.holder c.args.card.0 c.args.device.0 c.turn.new.self c.turn.ensures h.1; one = one_set ws c.in-Some.i c.turn.new.self }
+pub returns-in-Some-clause-turns : goal.returns-in-Some-clause-turns
+returns-in-Some-clause-turns c =
+    let ws = c.args.self.now.windows in
+    let such = has (starts c.args.card.0 c.args.device.0) in
+    let h = found_place such ws c.position.result c.in-Some.i c.in-Some.is (IsFirst-from_position _ _ c.position.result (λ w. such w ≡ true) (λ w. such w ≡ false) c.position.ensures.ran (YieldsList-from_slice c.args.self.now.windows cc) (λ x q k. search (rules, tests)) (λ x q k. search (rules, tests))) in
+    λ S e. turned_at S ws e c.in-Some.i h.0 c.args.holder c.args.card.0 c.args.device.0 c.turn.new.self c.turn.ensures h.1
 
-pub returns-in_default : goal.returns-in_default
-returns-in_default c = let ws = c.args.self.now.windows in
-    record { turns = λ S e. not_turned c.args.holder c.args.card.0 c.args.device.0 ws c.in_default.ensures; one = none_set ws }
+pub returns-in_default-clause-turns : goal.returns-in_default-clause-turns
+returns-in_default-clause-turns c =
+    let ws = c.args.self.now.windows in
+    let such = has (starts c.args.card.0 c.args.device.0) in
+    let h = found_none such ws c.position.result c.in_default.is (IsFirst-from_position _ _ c.position.result (λ w. such w ≡ true) (λ w. such w ≡ false) c.position.ensures.ran (YieldsList-from_slice c.args.self.now.windows cc) (λ x q k. search (rules, tests)) (λ x q k. search (rules, tests))) in
+    λ S e. not_turned c.args.holder c.args.card.0 c.args.device.0 ws h

@@ -5,10 +5,11 @@ use Rattle.meaning.specs.Checks.{fine, verdict, chosen}
 use Rattle.meaning.proofs.Verdicts.{admitted_facts}
 use Rattle.mapper.specs.Called.{here}
 use Rattle.pages.specs.Lawful.{lawful}
-use Rattle.window_table.specs.Choosing.{setup_of, window_kind}
+use Rattle.window_table.specs.Choosing.{setup_of}
 use Rattle.window_table.specs.Slots.{opened_of}
 use Rattle.window_table.proofs.Laws.{choice_own}
-use Rattle.windows.proofs.Calls.{setup_in, refused_call, opened_call, still_lawful, one_more}
+use Rattle.windows.specs.contracts.laws.WindowsMeaning.TheImpl.{ghosts as means}
+use Rattle.windows.proofs.Calls.{refused_call, opened_call, still_lawful, one_more}
 use Rattle.windows.proofs.mapping.WindowsMapper.map.Goals as goal
 
 pub returns-in_err-admit : goal.returns-in_err-admit
@@ -19,7 +20,7 @@ returns-in_err-admit c =
 
 pub place-requires : goal.place-requires
 place-requires c =
-    let a = admitted_facts (here window_kind setup_in c.args.self.now c.args.memory.now) c.args.request fine (c.in_ok-admit.ensures fine) in
+    let a = admitted_facts (here means c.args.self.now c.args.memory.now) c.args.request fine (c.in_ok-admit.ensures fine) in
     record { card = a.card; some = a.some }
 
 pub returns-in_err-placement : goal.returns-in_err-placement

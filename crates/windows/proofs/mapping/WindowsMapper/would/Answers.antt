@@ -3,8 +3,8 @@ use Rattle.std.proofs.lemmas.Result.{err_from_is_err_and}
 use Rattle.meaning.specs.Checks.{fine}
 use Rattle.meaning.proofs.Verdicts.{admitted_facts}
 use Rattle.mapper.specs.Called.{here}
-use Rattle.window_table.specs.Choosing.{window_kind}
-use Rattle.windows.proofs.Calls.{setup_in, would_refuse, would_fail, would_place}
+use Rattle.windows.specs.contracts.laws.WindowsMeaning.TheImpl.{ghosts as means}
+use Rattle.windows.proofs.Calls.{would_refuse, would_fail, would_place}
 use Rattle.windows.proofs.mapping.WindowsMapper.would.Goals as goal
 
 pub returns-in_err-admit : goal.returns-in_err-admit
@@ -14,7 +14,7 @@ returns-in_err-admit c =
 
 pub place-requires : goal.place-requires
 place-requires c =
-    let a = admitted_facts (here window_kind setup_in c.args.self.now c.args.memory.now) c.args.request fine (c.in_ok-admit.ensures fine) in
+    let a = admitted_facts (here means c.args.self.now c.args.memory.now) c.args.request fine (c.in_ok-admit.ensures fine) in
     record { card = a.card; some = a.some }
 
 pub returns-in_err-placement : goal.returns-in_err-placement

@@ -12,4 +12,4 @@ invariant_of-result c = record { ranged = subst (λ (g : Geometry). Ranged (setu
 
 pub returns : goal.returns
 unfolding opened_of
-returns c = record { numbers = c.accepted.ensures; number = ap told_by c.accepted.ensures ∙ granted_told c.args.geometry; empty = refl; choosing = choice_words (setup_of c.accepted.result) }
+returns c = record { numbers = c.accepted.ensures; refusal = ap told_by c.accepted.ensures ∙ granted_told c.args.geometry; empty = refl; choosing = choice_words (setup_of c.accepted.result) }
