@@ -12,7 +12,7 @@ mod tests {
     };
     use windows::Windows;
 
-    // The device address that a map answers, or else 0; number, layer and place of a refusal.
+    // The device address that a map answers, or else 0; number, layer and place of a refusal, as the rules give them.
     fn told(answer: Result<Reply, Fault>) -> Result<u64, (u8, u32, u64)> {
         match answer {
             Ok(Reply::At(device)) => Ok(device.0),
@@ -56,7 +56,7 @@ mod tests {
         let page = DevicePage(last);
         let windows = Windows::set_up(Geometry {
             cards,
-            lasts: [page, page, page, page],
+            lasts: [page; 4],
             frames,
         });
         windows.refusal().map(u8::from)
@@ -115,7 +115,7 @@ mod tests {
         let page = DevicePage(0);
         let mut engine = Engine::over(Windows::set_up(Geometry {
             cards: 1,
-            lasts: [page, page, page, page],
+            lasts: [page; 4],
             frames: 1,
         }));
         let mut memory = [0u8; 4096];
@@ -132,7 +132,7 @@ mod tests {
         let page = DevicePage(1);
         let mut engine = Engine::over(Windows::set_up(Geometry {
             cards: 2,
-            lasts: [page, page, page, page],
+            lasts: [page; 4],
             frames: 1,
         }));
         let mut memory = [0u8; 4096];

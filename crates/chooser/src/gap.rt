@@ -1,5 +1,5 @@
 // Runs of numbers: a range that is in use, and a gap that is free.
-ghost use Rattle.std.specs.Prelude.{◌≡◌, ◌-◌, Bool};
+ghost use Rattle.std.specs.Prelude.{◌≡◌, ◌-◌};
 ghost use Rattle.chooser.specs.Preference.{prefers as preferred};
 ghost use Rattle.chooser.specs.Finding.{held, cut_by, roomy, better as better_of};
 
@@ -66,7 +66,8 @@ impl Gap {
     }
 }
 
-// The gap to take of the best so far and another that may not have room for n numbers.
+// The gap to take of the best so far and another that may not have room for n numbers. A step of a fold and no `min_by_key`:
+// the definition prefers one gap to another, and which gap is taken is proved of its steps.
 pub(crate) fn better(n: u64, best: Option<Gap>, other: Option<Gap>) -> Option<Gap>
     ensures { result ≡ better_of preferred n best other }
 {

@@ -6,6 +6,7 @@ ghost use Rattle.units.specs.declared.fault.FaultKind.TheVariants.{NoFrames, NoP
 use units::{DevicePage, FaultKind, Frame};
 
 // A kind of number: its value, a number that no value reaches, and the refusal where no gap holds what is asked.
+// Its conversions are its own and no `From`: they are tied to the value and the top, and the way back asks for a value below that.
 pub trait Number: Sized {
     ghost value: { Self → ℕ };
 

@@ -1,5 +1,5 @@
 // Where n numbers go: the highest n of the best gap, which begins at the lowest number or right behind a range.
-ghost use Rattle.std.specs.Prelude.{◌≡◌, ℕ, ◌+◌, ◌<◌, Bool, cond, nat_lt, Some, None, MatchResult, IfSome};
+ghost use Rattle.std.specs.Prelude.{◌≡◌, ◌+◌, ◌<◌, cond, nat_lt, Some, None, MatchResult, IfSome};
 ghost use Rattle.chooser.specs.Preference.{prefers as preferred};
 ghost use Rattle.chooser.specs.Gaps.{Chosen, NoRoom};
 ghost use Rattle.chooser.specs.Finding.{clear, last_from, gap_at, best_gap, choice};
@@ -9,6 +9,7 @@ use crate::number::Number;
 use units::Fault;
 
 // The numbers from `lo` to `hi`, of which those in the ranges `used` are in use.
+// The clauses name its parts one by one, as the definitions do, which open mappings are spoken of by as well.
 #[derive(Clone, Copy, Debug, PartialEq, Eq)]
 pub struct Space<'u, N> {
     pub lo: N,

@@ -54,4 +54,6 @@ fn refuses_where_no_gap_holds_n(rt: HostRuntime) {
         used: &[],
     };
     assert_eq!(rt; frames.choose(4), Err(FaultKind::NoFrames.at(4)));
+    assert_eq!(rt; u8::from(FaultKind::NoPages), 10);
+    assert_eq!(rt; u8::from(FaultKind::NoFrames), 9);
 }

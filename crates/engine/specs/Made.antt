@@ -4,10 +4,9 @@ use Rattle.std.specs.Prelude.{◌≡◌, ℕ, List, [], ◌∷◌, None, slice_i
 use Rattle.units.specs.declared.mapping.Mapping.{Mapping}
 use Rattle.units.specs.declared.report.Report.{Report}
 use Rattle.meaning.specs.Memory.{bytes_of}
-use Rattle.meaning.specs.Worlds.{Setup, Kind}
 use Rattle.meaning.specs.Calls.{Call, Answer}
 use Rattle.meaning.specs.Effects.{State, answer, after, buffer_after}
-use Rattle.mapper.specs.Tasks.{Task, task_of, Left}
+use Rattle.mapper.specs.Tasks.{task_of, Left}
 use Rattle.mapper.specs.Called.{here}
 use Rattle.engine.specs.declared.Engine.{Engine}
 
@@ -25,7 +24,7 @@ reports_of l c = slice_index_or l c blank
 abbrev pub state : List Mapping → List ℕ → List Report → State
 state o x r = record { opens = o; memory = bytes_of x; reports = reports_of r }
 
--- from the mapper m, memory x and reports r to m', x' and r' by the call c, answered by a
+-- from the engine e and memory x to e' and x' by the call c, answered by a
 pub record Made {M : Type 0} (I : Meaning M)
     (e e' : Engine M) (x x' : List ℕ) (c : Call) (a : Answer) : Type 0 where
   pub fixed : I.setup e'.mapper ≡ I.setup e.mapper

@@ -1,7 +1,7 @@
 // The engine: any mapper, the CPU's accesses, and what was blocked.
 #![tactic(auto)]
 
-ghost use Rattle.std.specs.Prelude.{◌≡◌, ℕ, ◌+◌, ◌-◌, ◌*◌, ◌^◌, ◌<◌, ◌≤◌, min, Bool, true, false, List, length};
+ghost use Rattle.std.specs.Prelude.{◌≡◌, ℕ, ◌-◌, ◌*◌, ◌<◌, true, List, length};
 ghost use Rattle.units.specs.Faults.{is_block_kind};
 ghost use Rattle.meaning.specs.Calls.{map, unmap, sync, cpu_read, cpu_write, card_read, card_write, report};
 ghost use Rattle.meaning.specs.Checks.{cpu_checks, errs, fine};
@@ -10,13 +10,16 @@ ghost use Rattle.meaning.specs.Told.{tells_at, tells_done, tells_bytes, tells_re
 ghost use Rattle.mapper.specs.Called.{here};
 ghost use Rattle.engine.specs.Made.{no_reports, reports_of, state, Made, MadeRead};
 
-use mapper::Mapper;
+use mapper::{Mapper, check_access};
 use meaning::{read_bytes, write_bytes};
-use units::{Block, Buffer, Card, DeviceAddress, Fault, FaultKind, Report, Request, Sync};
+use units::{
+    Block, Buffer, Card, DeviceAddress, Fault, FaultKind, Report, Request, Sync, UnmapRequest,
+};
 
 #[derive(Drop)]
 pub struct Engine<M: Mapper> {
     pub mapper: M,
+    // Of up to 4 cards: memory is fixed.
     pub reports: [Report; 4],
 }
 
@@ -38,6 +41,7 @@ fn note(reports: &mut [Report], card: Card, device: DeviceAddress, fault: Fault)
     }
 }
 
+// Memory, card and device address are parameters of their own, as in `Mapper`.
 impl<M: Mapper> Engine<M> {
     // An engine over a mapper, with nothing counted.
     pub fn over(mapper: M) -> Engine<M>
@@ -61,17 +65,10 @@ impl<M: Mapper> Engine<M> {
     }
 
     // Closes a mapping; where the card may write, the buffer's bytes are then what the card left.
-    pub fn unmap(
-        &mut self,
-        memory: &mut [u8],
-        card: Card,
-        direction: u8,
-        device: DeviceAddress,
-        length: u32,
-    ) -> Result<(), Fault>
-        ensures { Made M.Meaning self.old self.new memory.old memory.new (unmap card.0 direction device.0 length) (tells_done result) }
+    pub fn unmap(&mut self, memory: &mut [u8], request: UnmapRequest) -> Result<(), Fault>
+        ensures { Made M.Meaning self.old self.new memory.old memory.new (unmap request.card.0 request.direction request.device.0 request.length) (tells_done result) }
     {
-        self.mapper.unmap(memory, card, direction, device, length)
+        self.mapper.unmap(memory, request)
     }
 
     // Hands a mapped buffer to the CPU, or back to the card.
@@ -87,7 +84,8 @@ impl<M: Mapper> Engine<M> {
         self.mapper.sync(memory, call, card, device)
     }
 
-    // Reads for a card; a block is counted.
+    // Reads for a card; a block is counted. The count stands beside the buffer, whose further bytes stay.
+    #[tactic(auto, using(crate::proofs::Making::read_blocked))]
     pub fn card_read(
         &mut self,
         memory: &[u8],
@@ -106,6 +104,7 @@ impl<M: Mapper> Engine<M> {
     }
 
     // Writes for a card; a block is counted.
+    #[tactic(auto, using(crate::proofs::Making::write_blocked))]
     pub fn card_write(
         &mut self,
         memory: &mut [u8],
@@ -123,20 +122,16 @@ impl<M: Mapper> Engine<M> {
     }
 
     // What an access of the CPU checks: length, memory, reserved frames, buffers that a card holds.
+    // The count stands beside the room, since more than there is room for is refused.
     fn reaches(&self, memory: &[u8], address: u32, count: usize, room: usize) -> Result<(), Fault>
         ensures { cpu_checks (here M.Meaning self.now.mapper memory.now) (M.opened self.now.mapper) address count room ≡ passes result fine }
     {
-        if count == 0 || count > 64 || count > room {
-            return Err(FaultKind::WrongLength.at(count as u64));
-        }
+        check_access(count, room)?;
         let access = Buffer {
             address,
             length: count as u32,
         };
-        let end = self.mapper.frames() as u64 * 4096;
-        if memory.len() as u64 != end || access.end() > end {
-            return Err(FaultKind::OutsideMemory.at(end));
-        }
+        self.mapper.check_inside(memory, access)?;
         if let Some(frame) = self
             .mapper
             .lowest_reserved(address / 4096, access.span() as u32)
@@ -149,7 +144,8 @@ impl<M: Mapper> Engine<M> {
         }
     }
 
-    // Reads 1 to 64 bytes for the CPU.
+    // Reads 1 to 64 bytes for the CPU. The count stands beside the buffer, whose further bytes stay.
+    #[tactic(auto, unfolding(meaning::specs::Checks::verdict))]
     pub fn cpu_read(
         &self,
         memory: &[u8],
@@ -165,6 +161,7 @@ impl<M: Mapper> Engine<M> {
     }
 
     // Writes 1 to 64 bytes for the CPU.
+    #[tactic(auto, unfolding(meaning::specs::Checks::verdict))]
     pub fn cpu_write(&self, memory: &mut [u8], address: u32, bytes: &[u8]) -> Result<(), Fault>
         ensures { Made M.Meaning self.now self.now memory.old memory.new (cpu_write address bytes.now) (tells_done result) }
     {
@@ -174,12 +171,11 @@ impl<M: Mapper> Engine<M> {
     }
 
     // How often a card was blocked, and its latest block.
+    #[tactic(auto, using(crate::proofs::Making::few_cards), unfolding(meaning::specs::Checks::verdict, crate::specs::Made::reports_of))]
     pub fn report(&self, card: Card) -> Result<Report, Fault>
         ensures { (x : List ℕ) → tells_report result ≡ answer (here M.Meaning self.now.mapper x) (state (M.opened self.now.mapper) x self.now.reports) (report card.0) }
     {
-        if card.0 >= self.mapper.cards() {
-            return Err(FaultKind::NoCard.at(card.0 as u64));
-        }
+        self.mapper.check_card(card)?;
         Ok(self.reports[card.0 as usize])
     }
 }

@@ -1,18 +1,13 @@
 // The mapper: its meaning, its laws, and the calls, with the checks that every mapper shares.
 #![tactic(auto)]
 
-ghost use Rattle.std.specs.Prelude.{◌≡◌, ℕ, ◌+◌, ◌*◌, ◌/◌, ◌%◌, ◌^◌, ◌<◌, ◌≤◌, Bool, true, false, List, [], Option, length};
-ghost use Rattle.units.specs.declared.mapping.Mapping.{Mapping as Opened};
-ghost use Rattle.units.specs.declared.mapping.Reach.{Reach as Reached};
-ghost use Rattle.meaning.specs.Mappings.{find, held, reach_of};
-ghost use Rattle.meaning.specs.Worlds.{Setup, Kind, world};
-ghost use Rattle.meaning.specs.Laws.{DisjointPages, Landings, EmptyRoom, ChoiceRefusals, Bounds};
-ghost use Rattle.meaning.specs.Calls.{Call, map, unmap, sync, card_read, card_write};
+ghost use Rattle.std.specs.Prelude.{◌≡◌, ◌+◌, ◌*◌, ◌/◌, ◌%◌, ◌^◌, ◌<◌, Option, length, true, false, nat_lt, nat_le, MatchResult, ◌==◌, ◌&&◌};
+ghost use Rattle.meaning.specs.Mappings.{find, held};
+ghost use Rattle.meaning.specs.Calls.{map, unmap, sync, card_read, card_write};
 ghost use Rattle.meaning.specs.Checks.{Verdict, admitted, unmap_checks, sync_checks, card_checks, none_reserved, none_held};
-ghost use Rattle.meaning.specs.Effects.{answer, opens_after};
+ghost use Rattle.meaning.specs.Effects.{answer};
 ghost use Rattle.meaning.specs.Told.{tells_at, tells_done, tells_bytes, passes, lowest, Names};
-ghost use Rattle.units.specs.declared.fault.FaultKind.TheVariants.{ReservedFrame, WrongHolder};
-ghost use Rattle.mapper.specs.Tasks.{Task};
+ghost use Rattle.units.specs.declared.fault.FaultKind.TheVariants.{NoCard, WrongLength, OutsideMemory, ReservedFrame, WrongHolder};
 ghost use Rattle.mapper.specs.Called.{here, seen, Called, Read, Translated, Targeted, Judged};
 
 mod laws;
@@ -20,10 +15,12 @@ mod laws;
 pub use laws::Meaning;
 use meaning::{read_bytes, write_bytes};
 use units::{
-    Access, Card, DeviceAddress, DevicePage, Direction, Fault, FaultKind, Frame, Mapping, Reach,
-    Request, Sync,
+    Access, Buffer, Card, DeviceAddress, DevicePage, Direction, Fault, FaultKind, Frame, Mapping,
+    Reach, Request, Sync, UnmapRequest,
 };
 
+// Memory is lent at each call and is no part of a mapper.
+// Card and device address are two parameters, as a request on the bus has a source and an address: a struct of the two would say no more.
 pub trait Mapper: Meaning {
     // How many cards there are.
     fn cards(&self) -> u8
@@ -58,15 +55,8 @@ pub trait Mapper: Meaning {
         ensures { Called Self.Meaning self.old self.new memory.old memory.new (map request) (tells_at result) };
 
     // Closes the mapping that starts at the device address, with that length and direction.
-    fn unmap(
-        &mut self,
-        memory: &mut [u8],
-        card: Card,
-        direction: u8,
-        device: DeviceAddress,
-        length: u32,
-    ) -> Result<(), Fault>
-        ensures { Called Self.Meaning self.old self.new memory.old memory.new (unmap card.0 direction device.0 length) (tells_done result) };
+    fn unmap(&mut self, memory: &mut [u8], request: UnmapRequest) -> Result<(), Fault>
+        ensures { Called Self.Meaning self.old self.new memory.old memory.new (unmap request.card.0 request.direction request.device.0 request.length) (tells_done result) };
 
     // Turns the holder of the mapping that starts at the device address.
     fn sync(
@@ -81,6 +71,46 @@ pub trait Mapper: Meaning {
     // The frame that a card's access to a device page reaches, or the block.
     fn translate(&mut self, card: Card, page: DevicePage, access: Access) -> Result<Frame, Fault>
         ensures { Translated Self.Meaning self.old self.new card.0 page.0 access result };
+
+    // The card is one of the set-up's.
+    fn check_card(&self, card: Card) -> Result<(), Fault>
+        ensures { MatchResult result (λ _. nat_lt card.0 (Self.setup self.now).cards ≡ true)
+            (λ f. (nat_lt card.0 (Self.setup self.now).cards ≡ false) × (f ≡ record { kind = NoCard; layer = 0; place = card.0 })) }
+    {
+        if card.0 < self.cards() {
+            Ok(())
+        } else {
+            Err(FaultKind::NoCard.at(card.0 as u64))
+        }
+    }
+
+    // The memory has the size of the set-up.
+    fn check_memory(&self, memory: &[u8]) -> Result<(), Fault>
+        ensures { MatchResult result (λ _. (length memory.now == (Self.setup self.now).frames * 4096) ≡ true)
+            (λ f. ((length memory.now == (Self.setup self.now).frames * 4096) ≡ false) × (f ≡ record { kind = OutsideMemory; layer = 0; place = (Self.setup self.now).frames * 4096 })) }
+    {
+        let end = self.frames() as u64 * 4096;
+        if memory.len() as u64 == end {
+            Ok(())
+        } else {
+            Err(FaultKind::OutsideMemory.at(end))
+        }
+    }
+
+    // The memory has the size of the set-up, and the buffer lies in it.
+    fn check_inside(&self, memory: &[u8], buffer: Buffer) -> Result<(), Fault>
+        ensures { MatchResult result
+            (λ _. (length memory.now == (Self.setup self.now).frames * 4096 && nat_le (buffer.address + buffer.length) ((Self.setup self.now).frames * 4096)) ≡ true)
+            (λ f. ((length memory.now == (Self.setup self.now).frames * 4096 && nat_le (buffer.address + buffer.length) ((Self.setup self.now).frames * 4096)) ≡ false)
+            × (f ≡ record { kind = OutsideMemory; layer = 0; place = (Self.setup self.now).frames * 4096 })) }
+    {
+        let end = self.frames() as u64 * 4096;
+        if memory.len() as u64 == end && buffer.end() <= end {
+            Ok(())
+        } else {
+            Err(FaultKind::OutsideMemory.at(end))
+        }
+    }
 
     // The lowest reserved frame among `count` from `first` on.
     fn lowest_reserved(&self, first: u32, count: u32) -> Option<u32>
@@ -103,19 +133,12 @@ pub trait Mapper: Meaning {
         ensures { (v : Verdict) → admitted (here Self.Meaning self.now memory.now) request v ≡ passes result v }
     {
         let buffer = request.buffer;
-        if request.card.0 >= self.cards() {
-            return Err(FaultKind::NoCard.at(request.card.0 as u64));
-        }
-        if let Err(kind) = Direction::try_from(request.direction) {
-            return Err(kind.at(request.direction as u64));
-        }
+        self.check_card(request.card)?;
+        Direction::try_from(request.direction).map_err(|kind| kind.at(request.direction as u64))?;
         if buffer.length == 0 || buffer.span() > 8 {
             return Err(FaultKind::WrongLength.at(buffer.length as u64));
         }
-        let end = self.frames() as u64 * 4096;
-        if memory.len() as u64 != end || buffer.end() > end {
-            return Err(FaultKind::OutsideMemory.at(end));
-        }
+        self.check_inside(memory, buffer)?;
         match self.lowest_reserved(buffer.address / 4096, buffer.span() as u32) {
             Some(frame) => Err(FaultKind::ReservedFrame.at(frame as u64)),
             None => Ok(()),
@@ -123,31 +146,18 @@ pub trait Mapper: Meaning {
     }
 
     // What unmap checks: card, direction, memory, and the mapping that it closes.
-    fn closing(
-        &self,
-        memory: &[u8],
-        card: Card,
-        direction: u8,
-        device: DeviceAddress,
-        length: u32,
-    ) -> Result<Mapping, Fault>
-        ensures { Names (unmap_checks (here Self.Meaning self.now memory.now) (Self.opened self.now) card.0 direction device.0 length) (find (Self.opened self.now) card.0 device.0) result }
+    fn closing(&self, memory: &[u8], request: UnmapRequest) -> Result<Mapping, Fault>
+        ensures { Names (unmap_checks (here Self.Meaning self.now memory.now) (Self.opened self.now) request.card.0 request.direction request.device.0 request.length) (find (Self.opened self.now) request.card.0 request.device.0) result }
     {
-        if card.0 >= self.cards() {
-            return Err(FaultKind::NoCard.at(card.0 as u64));
-        }
-        let direction = match Direction::try_from(direction) {
-            Ok(named) => named,
-            Err(kind) => return Err(kind.at(direction as u64)),
-        };
-        let end = self.frames() as u64 * 4096;
-        if memory.len() as u64 != end {
-            return Err(FaultKind::OutsideMemory.at(end));
-        }
-        let Some(mapping) = self.mapping_at(card, device) else {
-            return Err(FaultKind::NotOpen.at(device.0));
-        };
-        if mapping.buffer.length != length || mapping.direction != direction {
+        self.check_card(request.card)?;
+        let direction = Direction::try_from(request.direction).map_err(|kind| kind.at(
+            request.direction as u64,
+        ))?;
+        self.check_memory(memory)?;
+        let mapping = self
+            .mapping_at(request.card, request.device)
+            .ok_or(FaultKind::NotOpen.at(request.device.0))?;
+        if mapping.buffer.length != request.length || mapping.direction != direction {
             return Err(FaultKind::OtherMapping.at(mapping.buffer.length as u64));
         }
         Ok(mapping)
@@ -163,16 +173,11 @@ pub trait Mapper: Meaning {
     ) -> Result<Mapping, Fault>
         ensures { Names (sync_checks (here Self.Meaning self.now memory.now) (Self.opened self.now) call card.0 device.0) (find (Self.opened self.now) card.0 device.0) result }
     {
-        if card.0 >= self.cards() {
-            return Err(FaultKind::NoCard.at(card.0 as u64));
-        }
-        let end = self.frames() as u64 * 4096;
-        if memory.len() as u64 != end {
-            return Err(FaultKind::OutsideMemory.at(end));
-        }
-        let Some(mapping) = self.mapping_at(card, device) else {
-            return Err(FaultKind::NotOpen.at(device.0));
-        };
+        self.check_card(card)?;
+        self.check_memory(memory)?;
+        let mapping = self
+            .mapping_at(card, device)
+            .ok_or(FaultKind::NotOpen.at(device.0))?;
         match mapping.holder.turn(call) {
             Some(_) => Ok(mapping),
             None => Err(FaultKind::WrongHolder.at(device.0)),
@@ -180,6 +185,7 @@ pub trait Mapper: Meaning {
     }
 
     // What a card's access checks before its reach is judged: card, length, memory, one device page.
+    // The count stands beside the room, since more than there is room for is refused.
     fn accessing(
         &self,
         memory: &[u8],
@@ -190,16 +196,9 @@ pub trait Mapper: Meaning {
     ) -> Result<(), Fault>
         ensures { (v : Verdict) → card_checks (here Self.Meaning self.now memory.now) card.0 device.0 count room v ≡ passes result v }
     {
-        if card.0 >= self.cards() {
-            return Err(FaultKind::NoCard.at(card.0 as u64));
-        }
-        if count == 0 || count > 64 || count > room {
-            return Err(FaultKind::WrongLength.at(count as u64));
-        }
-        let end = self.frames() as u64 * 4096;
-        if memory.len() as u64 != end {
-            return Err(FaultKind::OutsideMemory.at(end));
-        }
+        self.check_card(card)?;
+        check_access(count, room)?;
+        self.check_memory(memory)?;
         if device.0 % 4096 + count as u64 > 4096 || device.0 >= 0x1_0000_0000_0000 {
             return Err(FaultKind::CrossesPage.at(device.0));
         }
@@ -223,7 +222,8 @@ pub trait Mapper: Meaning {
         Ok(frame.0 as usize * 4096 + device.offset() as usize)
     }
 
-    // Reads 1 to 64 bytes in one device page for a card.
+    // Reads 1 to 64 bytes in one device page for a card. The count stands beside the buffer, whose further bytes stay.
+    #[tactic(auto, unfolding(meaning::specs::Checks::verdict))]
     fn card_read(
         &mut self,
         memory: &[u8],
@@ -240,6 +240,7 @@ pub trait Mapper: Meaning {
     }
 
     // Writes 1 to 64 bytes in one device page for a card.
+    #[tactic(auto, unfolding(meaning::specs::Checks::verdict))]
     fn card_write(
         &mut self,
         memory: &mut [u8],
@@ -260,6 +261,17 @@ pub trait Mapper: Meaning {
         write_bytes(memory, at, bytes);
         Ok(())
     }
+}
+
+// An access of 1 to 64 bytes, with room for them.
+pub fn check_access(count: usize, room: usize) -> Result<(), Fault>
+    ensures { MatchResult result (λ _. (nat_lt 0 count && (nat_le count 64 && nat_le count room)) ≡ true)
+        (λ f. ((nat_lt 0 count && (nat_le count 64 && nat_le count room)) ≡ false) × (f ≡ record { kind = WrongLength; layer = 0; place = count })) }
+{
+    if count == 0 || count > 64 || count > room {
+        return Err(FaultKind::WrongLength.at(count as u64));
+    }
+    Ok(())
 }
 
 // The frame that a reach lets a card access, or the block: absent, or the right is lacking.

@@ -1,6 +1,6 @@
 -- Lists of open mappings: which are in them, in which order, and what the changes do.
 use Rattle.std.proofs.Common.{◌≡◌, ℕ, suc, ◌<◌, ◌≤◌, Bool, true, false, cond, ◌&&◌, ◌||◌, ltb, ◌⊎◌, List, [], ◌∷◌, length, Some, None, Option, sym, refl, ap, ◌∙◌, subst, inl, inr, arith}
-use Rattle.std.proofs.lemmas.Bool.{ltb-true, ltb-false, lt-ltb, le-ltb, cond-true, cond-false, cases_lt}
+use Rattle.std.proofs.lemmas.Bool.{ltb-true, ltb-false, lt-ltb, le-ltb, cond-true, cond-false, cases_lt, cases_Bool}
 use Rattle.units.specs.declared.mapping.Holder.{Holder}
 use Rattle.units.specs.declared.mapping.Mapping.{Mapping}
 use Rattle.units.specs.declared.mapping.Reach.{Reach}
@@ -37,14 +37,21 @@ insert_keeps m n (k ∷ o) i = go (ltb (key m) (key k)) i (λ j. insert_keeps m 
     go false (inl e) later = inl e
     go false (inr j) later = inr (later j)
 
-pub length_insert : (m : Mapping) (o : List Mapping) → length (insert m o) ≡ suc (length o)
+insert_here : (m x : Mapping) (xs : List Mapping) → key m < key x → insert m (x ∷ xs) ≡ m ∷ x ∷ xs
 unfolding insert
-length_insert m [] = refl
-length_insert m (k ∷ o) = go (ltb (key m) (key k)) (length_insert m o)
-  where
-    go : (b : Bool) → length (insert m o) ≡ suc (length o) → length (cond b (m ∷ k ∷ o) (k ∷ insert m o)) ≡ suc (suc (length o))
-    go true later = refl
-    go false later = ap suc later
+insert_here m x xs l = cond-true (ltb (key m) (key x)) (m ∷ x ∷ xs) (x ∷ insert m xs) (lt-ltb (key m) (key x) l)
+
+insert_past : (m x : Mapping) (xs : List Mapping) → key x ≤ key m → insert m (x ∷ xs) ≡ x ∷ insert m xs
+unfolding insert
+insert_past m x xs l = cond-false (ltb (key m) (key x)) (m ∷ x ∷ xs) (x ∷ insert m xs) (le-ltb (key m) (key x) l)
+
+insert_none : (m : Mapping) → insert m [] ≡ m ∷ []
+unfolding insert
+insert_none m = refl
+
+pub length_insert : (m : Mapping) (o : List Mapping) → length (insert m o) ≡ suc (length o)
+length_insert m [] = ap length (insert_none m)
+length_insert m (k ∷ o) = let later = length_insert m o in grind (arith, insert_here, insert_past, cases_lt (key m) (key k))
 
 -- each is in some place of the pairs
 pub pairwise_in : (R : Mapping → Mapping → Type 0) (o : List Mapping) → Pairwise R o → (m n : Mapping) → In m o → In n o → (m ≡ n) ⊎ (R m n ⊎ R n m)
@@ -133,18 +140,6 @@ pair_turn R t c v (k ∷ o) f p = (
 
 -- In which order ------------------------------------------------------------------------------------------
 
-insert_here : (m x : Mapping) (xs : List Mapping) → key m < key x → insert m (x ∷ xs) ≡ m ∷ x ∷ xs
-unfolding insert
-insert_here m x xs l = cond-true (ltb (key m) (key x)) (m ∷ x ∷ xs) (x ∷ insert m xs) (lt-ltb (key m) (key x) l)
-
-insert_past : (m x : Mapping) (xs : List Mapping) → key x ≤ key m → insert m (x ∷ xs) ≡ x ∷ insert m xs
-unfolding insert
-insert_past m x xs l = cond-false (ltb (key m) (key x)) (m ∷ x ∷ xs) (x ∷ insert m xs) (le-ltb (key m) (key x) l)
-
-insert_none : (m : Mapping) → insert m [] ≡ m ∷ []
-unfolding insert
-insert_none m = refl
-
 -- mappings of different keys may be put in in either order
 pub insert_comm : (a b : Mapping) (xs : List Mapping) → (key a ≡ key b → ⊥) → insert a (insert b xs) ≡ insert b (insert a xs)
 insert_comm a b [] ne = grind (arith, insert_none, insert_here, insert_past, cases_lt (key a) (key b))
@@ -203,35 +198,27 @@ unfolding remove
 remove_none c v [] h = refl
 remove_none c v (x ∷ xs) h = cond-false (starts c v x) (remove c v xs) (x ∷ remove c v xs) (h x (inl refl)) ∙ ap (λ (z : List Mapping). x ∷ z) (remove_none c v xs (λ n i. h n (inr i)))
 
-pub remove_insert_same : (c v : ℕ) (m : Mapping) (o : List Mapping) → starts c v m ≡ true → ((n : Mapping) → In n o → starts c v n ≡ false) → remove c v (insert m o) ≡ o
-unfolding remove insert
-remove_insert_same c v m [] e h = cond-true (starts c v m) [] (m ∷ []) e
-remove_insert_same c v m (x ∷ xs) e h = go (ltb (key m) (key x)) (remove_insert_same c v m xs e (λ n i. h n (inr i)))
-  where
-    keeps : (z : List Mapping) → cond (starts c v x) z (x ∷ z) ≡ x ∷ z
-    keeps z = cond-false (starts c v x) z (x ∷ z) (h x (inl refl))
+remove_hit : (c v : ℕ) (x : Mapping) (xs : List Mapping) → starts c v x ≡ true → remove c v (x ∷ xs) ≡ remove c v xs
+unfolding remove
+remove_hit c v x xs e = cond-true (starts c v x) (remove c v xs) (x ∷ remove c v xs) e
 
-    go : (b : Bool) → remove c v (insert m xs) ≡ xs → remove c v (cond b (m ∷ x ∷ xs) (x ∷ insert m xs)) ≡ x ∷ xs
-    go true later = cond-true (starts c v m) (remove c v (x ∷ xs)) (m ∷ remove c v (x ∷ xs)) e ∙ remove_none c v (x ∷ xs) h
-    go false later = keeps (remove c v (insert m xs)) ∙ ap (λ (z : List Mapping). x ∷ z) later
+remove_miss : (c v : ℕ) (x : Mapping) (xs : List Mapping) → starts c v x ≡ false → remove c v (x ∷ xs) ≡ x ∷ remove c v xs
+unfolding remove
+remove_miss c v x xs e = cond-false (starts c v x) (remove c v xs) (x ∷ remove c v xs) e
+
+pub remove_insert_same : (c v : ℕ) (m : Mapping) (o : List Mapping) → starts c v m ≡ true → ((n : Mapping) → In n o → starts c v n ≡ false) → remove c v (insert m o) ≡ o
+remove_insert_same c v m [] e h = let none = remove_none c v [] h in grind (arith, insert_none, remove_hit)
+remove_insert_same c v m (x ∷ xs) e h =
+    let later = remove_insert_same c v m xs e (λ n i. h n (inr i)) in
+    let none = remove_none c v (x ∷ xs) h in
+    let other = h x (inl refl) in grind (arith, insert_here, insert_past, remove_hit, remove_miss, cases_lt (key m) (key x))
 
 pub remove_insert_other : (c v : ℕ) (m : Mapping) (o : List Mapping) → starts c v m ≡ false → Sorted o → remove c v (insert m o) ≡ insert m (remove c v o)
-unfolding remove insert
-remove_insert_other c v m [] e s = cond-false (starts c v m) [] (m ∷ []) e
-remove_insert_other c v m (x ∷ xs) e s = go (ltb (key m) (key x)) (starts c v x) refl refl (remove_insert_other c v m xs e s.1)
-  where
-    go : (a b : Bool) → ltb (key m) (key x) ≡ a → starts c v x ≡ b → remove c v (insert m xs) ≡ insert m (remove c v xs)
-        → remove c v (cond a (m ∷ x ∷ xs) (x ∷ insert m xs)) ≡ insert m (cond b (remove c v xs) (x ∷ remove c v xs))
-    go true true l k later =
-        cond-false (starts c v m) _ _ e ∙ ap (λ (z : List Mapping). m ∷ z) (cond-true (starts c v x) (remove c v xs) (x ∷ remove c v xs) k)
-        ∙ sym (insert_front m (key x) (remove c v xs) (ltb-true (key m) (key x) l) (from_remove (key x) c v xs s.0))
-    go true false l k later =
-        cond-false (starts c v m) _ _ e ∙ ap (λ (z : List Mapping). m ∷ z) (cond-false (starts c v x) (remove c v xs) (x ∷ remove c v xs) k)
-        ∙ sym (insert_here m x (remove c v xs) (ltb-true (key m) (key x) l))
-    go false true l k later = cond-true (starts c v x) (remove c v (insert m xs)) (x ∷ remove c v (insert m xs)) k ∙ later
-    go false false l k later =
-        cond-false (starts c v x) (remove c v (insert m xs)) (x ∷ remove c v (insert m xs)) k ∙ ap (λ (z : List Mapping). x ∷ z) later
-        ∙ sym (insert_past m x (remove c v xs) (ltb-false (key m) (key x) l))
+remove_insert_other c v m [] e s = let none = remove_none c v [] (λ n i. elim i [ ]) in grind (arith, insert_none, remove_miss)
+remove_insert_other c v m (x ∷ xs) e s =
+    let later = remove_insert_other c v m xs e s.1 in
+    let front : key m < key x → insert m (remove c v xs) ≡ m ∷ remove c v xs = λ l. insert_front m (key x) (remove c v xs) l (from_remove (key x) c v xs s.0) in
+    grind (arith, insert_here, insert_past, remove_hit, remove_miss, cases_lt (key m) (key x), cases_Bool (starts c v x))
 
 pub turn_none : (h : Holder) (c v : ℕ) (o : List Mapping) → ((n : Mapping) → In n o → starts c v n ≡ false) → turn h c v o ≡ o
 unfolding turn
@@ -240,29 +227,20 @@ turn_none h c v (x ∷ xs) f =
     ap (λ (z : Mapping). z ∷ turn h c v xs) (cond-false (starts c v x) (turned h x) x (f x (inl refl)))
     ∙ ap (λ (z : List Mapping). x ∷ z) (turn_none h c v xs (λ n i. f n (inr i)))
 
+turn_cons : (h : Holder) (c v : ℕ) (x : Mapping) (xs : List Mapping) → turn h c v (x ∷ xs) ≡ cond (starts c v x) (turned h x) x ∷ turn h c v xs
+unfolding turn
+turn_cons h c v x xs = refl
+
+turned_key : (h : Holder) (b : Bool) (m : Mapping) → key (cond b (turned h m) m) ≡ key m
+turned_key h true m = refl
+turned_key h false m = refl
+
 pub turn_insert : (h : Holder) (c v : ℕ) (m : Mapping) (o : List Mapping) → turn h c v (insert m o) ≡ insert (cond (starts c v m) (turned h m) m) (turn h c v o)
-unfolding turn insert
-turn_insert h c v m [] = refl
-turn_insert h c v m (x ∷ xs) = go (ltb (key m) (key x)) (starts c v m) (starts c v x) refl (turn_insert h c v m xs)
-  where
-    go : (d a b : Bool) → ltb (key m) (key x) ≡ d → turn h c v (insert m xs) ≡ insert (cond (starts c v m) (turned h m) m) (turn h c v xs)
-        → turn h c v (cond d (m ∷ x ∷ xs) (x ∷ insert m xs)) ≡ insert (cond (starts c v m) (turned h m) m) (cond (starts c v x) (turned h x) x ∷ turn h c v xs)
-    go true a b e later = sym (insert_here (cond (starts c v m) (turned h m) m) (cond (starts c v x) (turned h x) x) (turn h c v xs) (same (starts c v m) (starts c v x) (ltb-true (key m) (key x) e)))
-      where
-        same : (a b : Bool) → key m < key x → key (cond a (turned h m) m) < key (cond b (turned h x) x)
-        same true true l = l
-        same true false l = l
-        same false true l = l
-        same false false l = l
-    go false a b e later =
-        ap (λ (z : List Mapping). cond (starts c v x) (turned h x) x ∷ z) later
-        ∙ sym (insert_past (cond (starts c v m) (turned h m) m) (cond (starts c v x) (turned h x) x) (turn h c v xs) (same (starts c v m) (starts c v x) (ltb-false (key m) (key x) e)))
-      where
-        same : (a b : Bool) → key x ≤ key m → key (cond b (turned h x) x) ≤ key (cond a (turned h m) m)
-        same true true l = l
-        same true false l = l
-        same false true l = l
-        same false false l = l
+turn_insert h c v m [] = let none = turn_none h c v [] (λ n i. elim i [ ]) in grind (arith, insert_none, turn_cons)
+turn_insert h c v m (x ∷ xs) =
+    let later = turn_insert h c v m xs in
+    let a = turned_key h (starts c v m) m in
+    let b = turned_key h (starts c v x) x in grind (arith, insert_here, insert_past, turn_cons, cases_lt (key m) (key x))
 
 -- Looking up ----------------------------------------------------------------------------------------------
 
@@ -278,33 +256,31 @@ find_in c v (x ∷ xs) m i s one = go (starts c v x) refl i (λ j. find_in c v x
   where
     go : (b : Bool) → starts c v x ≡ b → (m ≡ x) ⊎ In m xs → (In m xs → find xs c v ≡ Some m) → cond b (Some x) (find xs c v) ≡ Some m
     go true e j later = ap (λ (z : Mapping). Some z) (one x (inl refl) e)
-    go false e (inl j) later = let t : true ≡ false = sym s ∙ (ap (starts c v) j ∙ e) in let z : ◌≡◌ {A = ℕ} 0 1 = cc in absurd (omega arith)
+    go false e (inl j) later = let t : true ≡ false = sym s ∙ (ap (starts c v) j ∙ e) in absurd (cc)
     go false e (inr j) later = later j
 
 pub find_is_in : (c v : ℕ) (o : List Mapping) (m : Mapping) → find o c v ≡ Some m → In m o
 unfolding find
-find_is_in c v [] m e = let z : ◌≡◌ {A = ℕ} 0 1 = cc in absurd (omega arith)
+find_is_in c v [] m e = absurd (cc)
 find_is_in c v (x ∷ xs) m e = go (starts c v x) e (λ i. find_is_in c v xs m i)
   where
     go : (b : Bool) → cond b (Some x) (find xs c v) ≡ Some m → (find xs c v ≡ Some m → In m xs) → (m ≡ x) ⊎ In m xs
     go true h later = inl (cc)
     go false h later = inr (later h)
 
-pub held_none : (b : ℕ) (o : List Mapping) → ((n : Mapping) → In n o → (card_holds n.holder && covers n b) ≡ false) → held o b ≡ false
-unfolding held
-held_none b [] h = refl
-held_none b (x ∷ xs) h = let a = h x (inl refl) in let later = held_none b xs (λ n i. h n (inr i)) in
-    ap (λ (z : Bool). z || held xs b) a ∙ later
-
-pub held_in : (b : ℕ) (o : List Mapping) (m : Mapping) → In m o → (card_holds m.holder && covers m b) ≡ true → held o b ≡ true
-unfolding held
-held_in b [] m i e = elim i [ ]
-held_in b (x ∷ xs) m (inl i) e = ap (λ (z : Bool). z || held xs b) (ap (λ (z : Mapping). card_holds z.holder && covers z b) (sym i) ∙ e)
-held_in b (x ∷ xs) m (inr i) e = let later = held_in b xs m i e in go (card_holds x.holder && covers x b) later
+pub held_insert : (b : ℕ) (m : Mapping) (o : List Mapping) → held (insert m o) b ≡ ((card_holds m.holder && covers m b) || held o b)
+unfolding held insert
+held_insert b m [] = refl
+held_insert b m (x ∷ xs) = go (ltb (key m) (key x)) (held_insert b m xs)
   where
-    go : (z : Bool) → held xs b ≡ true → (z || held xs b) ≡ true
+    swap : (y z w : Bool) → (z || (y || w)) ≡ (y || (z || w))
+    swap true true w = refl
+    swap true false w = refl
+    swap false z w = refl
+
+    go : (d : Bool) → held (insert m xs) b ≡ ((card_holds m.holder && covers m b) || held xs b) → held (cond d (m ∷ x ∷ xs) (x ∷ insert m xs)) b ≡ ((card_holds m.holder && covers m b) || held (x ∷ xs) b)
     go true later = refl
-    go false later = later
+    go false later = ap (λ (z : Bool). (card_holds x.holder && covers x b) || z) later ∙ swap (card_holds m.holder && covers m b) (card_holds x.holder && covers x b) (held xs b)
 
 pub reach_none : (c p : ℕ) (o : List Mapping) → ((n : Mapping) → In n o → on_page c p n ≡ false) → reach_of o c p ≡ None
 unfolding reach_of
@@ -318,7 +294,7 @@ reach_of_in c p (x ∷ xs) m i s one = go (on_page c p x) refl i (λ j. reach_of
   where
     go : (b : Bool) → on_page c p x ≡ b → (m ≡ x) ⊎ In m xs → (In m xs → reach_of xs c p ≡ reach_through m p) → cond b (reach_through x p) (reach_of xs c p) ≡ reach_through m p
     go true e j later = ap (λ (z : Mapping). reach_through z p) (one x (inl refl) e)
-    go false e (inl j) later = let t : true ≡ false = sym s ∙ (ap (on_page c p) j ∙ e) in let z : ◌≡◌ {A = ℕ} 0 1 = cc in absurd (omega arith)
+    go false e (inl j) later = let t : true ≡ false = sym s ∙ (ap (on_page c p) j ∙ e) in absurd (cc)
     go false e (inr j) later = later j
 
 pub reach_insert_other : (c p : ℕ) (m : Mapping) (o : List Mapping) → on_page c p m ≡ false → reach_of (insert m o) c p ≡ reach_of o c p

@@ -1,7 +1,7 @@
 -- A buffer that lands at its own address: the copies change nothing.
 use Rattle.std.proofs.Common.{◌≡◌, ℕ, ◌+◌, ◌-◌, ◌/◌, Bool, true, false, cond, ◌&&◌, sym, refl, ap, ◌∙◌, inl, inr, arith}
 use mathlib.Core.Path.{fun_ext}
-use Rattle.std.proofs.lemmas.Bool.{cases_Bool, cond-true, cond-false}
+use Rattle.std.proofs.lemmas.Bool.{cases_Bool}
 use Rattle.units.specs.declared.mapping.Mapping.{Mapping}
 use Rattle.units.specs.declared.mapping.Sync.{Sync}
 use Rattle.units.specs.declared.mapping.Sync.TheVariants.{ForCpu, ForCard}
@@ -13,10 +13,8 @@ use Rattle.meaning.proofs.Facts.{within_true}
 
 same_byte : (a b n : ℕ) (x : Bytes) (q : ℕ) → a ≡ b → cond (within b n q) (x (a + (q - b))) (x q) ≡ x q
 same_byte a b n x q e = elim (cases_Bool (within b n q)) [
-  | inl t ↦ (let low = (within_true b n q t).0 in
-      let here : a + (q - b) ≡ q = omega arith in
-      cond-true (within b n q) (x (a + (q - b))) (x q) t ∙ ap x here)
-  | inr f ↦ cond-false (within b n q) (x (a + (q - b))) (x q) f
+  | inl t ↦ (let low = (within_true b n q t).0 in let here : a + (q - b) ≡ q = omega arith in cc)
+  | inr f ↦ cc
 ]
 
 copy_own : (a b n : ℕ) (x : Bytes) → a ≡ b → copy b a n x ≡ x

@@ -16,7 +16,7 @@ pub record Through (o : List Mapping) (c p : ℕ) (s : Reach) : Type 0 where
 
 pub through : (o : List Mapping) (c p : ℕ) (s : Reach) → reach_of o c p ≡ Some s → Through o c p s
 unfolding reach_of
-through [] c p s e = let z : ◌≡◌ {A = ℕ} 0 1 = cc in absurd (omega arith)
+through [] c p s e = absurd (cc)
 through (m ∷ o) c p s e = go (on_page c p m) refl e (λ i. through o c p s i)
   where
     go : (b : Bool) → on_page c p m ≡ b → cond b (reach_through m p) (reach_of o c p) ≡ Some s

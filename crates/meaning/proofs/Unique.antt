@@ -1,22 +1,19 @@
 -- By disjoint pages, what lies on a page or starts at a device address is one mapping.
-use Rattle.std.proofs.Common.{◌≡◌, ℕ, ◌+◌, ◌/◌, ◌<◌, ◌≤◌, true, eqb, List, sym, ap, ◌∙◌, inl, inr, arith}
-use Rattle.std.proofs.lemmas.Bool.{and_parts, eqb-true}
+use Rattle.std.proofs.Common.{◌≡◌, ℕ, ◌+◌, ◌/◌, ◌<◌, ◌≤◌, true, List, sym, ◌∙◌, inl, inr, arith}
+use Rattle.std.proofs.lemmas.Bool.Decides.{nat_tests}
 use Rattle.units.specs.declared.mapping.Mapping.{Mapping}
 use Rattle.meaning.specs.Mappings.{In, Pages, on_page, starts, first_page, page_count}
 use Rattle.meaning.specs.Worlds.{Setup}
 use Rattle.meaning.specs.Laws.{DisjointPages}
-use Rattle.meaning.proofs.Facts.{page_fact, page_test}
+use Rattle.meaning.proofs.Facts.{page_fact}
 use Rattle.meaning.proofs.Lists.{pairwise_in}
 
 -- a mapping lies on the page that it starts on
 pub start_page : (c v : ℕ) (m : Mapping) → 0 < m.buffer.length → starts c v m ≡ true → on_page c (v / 4096) m ≡ true
 start_page c v m some s =
-    let h = and_parts (eqb m.card.0 c) (eqb m.device.0 v) s in
-    let d = eqb-true m.device.0 v h.1 in
-    let first : first_page m ≡ v / 4096 = ap (λ (z : ℕ). z / 4096) d in
+    let d : m.device.0 ≡ v = grind (arith, nat_tests) in
     let low : first_page m ≤ v / 4096 = omega arith in
-    let high : v / 4096 < first_page m + page_count m = omega arith in
-    page_test c (v / 4096) m (eqb-true m.card.0 c h.0) (record { from = low; to = high })
+    let high : v / 4096 < first_page m + page_count m = omega arith in grind (arith, nat_tests)
 
 module _ (S : Setup) (o : List Mapping) (law : DisjointPages S o) where
   pub one_on_page : (c p : ℕ) (m n : Mapping) → In m o → In n o → on_page c p m ≡ true → on_page c p n ≡ true → n ≡ m

@@ -1,8 +1,9 @@
 -- What is known once checks have let a call pass.
-use Rattle.std.proofs.Common.{◌≡◌, ℕ, zero, suc, ◌+◌, ◌*◌, ◌/◌, ◌%◌, ◌^◌, ◌<◌, ◌≤◌, Bool, true, false, cond, ◌&&◌, eqb, ltb, leb, sym, refl, ap, ◌∙◌, inl, inr, arith}
-use Rattle.std.proofs.lemmas.Bool.{and_parts, leb-true, ltb-true, eqb-true, cases_eq}
+use Rattle.std.proofs.Common.{◌≡◌, ℕ, zero, suc, ◌+◌, ◌*◌, ◌/◌, ◌%◌, ◌^◌, ◌<◌, ◌≤◌, Bool, true, false, cond, sym, refl, ap, ◌∙◌, inl, inr, arith}
+use Rattle.std.proofs.lemmas.Bool.Decides.{nat_tests}
+use Rattle.std.proofs.lemmas.Bool.{cases_eq}
 use Rattle.units.specs.declared.fault.FaultKind.{FaultKind}
-use Rattle.units.specs.declared.fault.FaultKind.TheVariants.{NoCard, NoDirection, WrongLength, OutsideMemory, ReservedFrame, CrossesPage}
+use Rattle.units.specs.declared.fault.FaultKind.TheVariants.{ReservedFrame}
 use Rattle.units.specs.declared.mapping.Request.{Request}
 use Rattle.units.specs.Buffers.{span}
 use Rattle.meaning.specs.Worlds.{World}
@@ -10,11 +11,11 @@ use Rattle.meaning.specs.Checks.{Verdict, fine, errs, fault, ◌then◌, unless,
 
 pub then_fine : (v w : Verdict) → (v then w) ≡ fine → (v ≡ fine) × (w ≡ fine)
 then_fine fine w e = (refl, e)
-then_fine (errs f) w e = let z : ◌≡◌ {A = ℕ} 0 1 = cc in absurd (omega arith)
+then_fine (errs f) w e = absurd (cc)
 
 pub unless_fine : (b : Bool) (k : FaultKind) (p : ℕ) → unless b k p ≡ fine → b ≡ true
 unless_fine true k p e = refl
-unless_fine false k p e = let z : ◌≡◌ {A = ℕ} 0 1 = cc in absurd (omega arith)
+unless_fine false k p e = absurd (cc)
 
 -- none of them is such
 pub none_of_lem : (k : FaultKind) (such : ℕ → Bool) (f n : ℕ) → none_of k such f n ≡ fine → (g : ℕ) → f ≤ g → g < f + n → such g ≡ false
@@ -23,7 +24,7 @@ none_of_lem k such f zero e g l h = absurd (omega arith)
 none_of_lem k such f (suc n) e g l h = go (such f) refl e (λ i j. none_of_lem k such (suc f) n i g j (omega arith))
   where
     go : (b : Bool) → such f ≡ b → cond b (fault k f) (none_of k such (suc f) n) ≡ fine → (none_of k such (suc f) n ≡ fine → suc f ≤ g → such g ≡ false) → such g ≡ false
-    go true s i later = let z : ◌≡◌ {A = ℕ} 0 1 = cc in absurd (omega arith)
+    go true s i later = absurd (cc)
     go false s i later = elim (cases_eq f g) [ inl same ↦ (ap such (sym same) ∙ s) | inr other ↦ later i (omega arith) ]
 
 -- a card's access that its checks let pass
@@ -42,17 +43,14 @@ card_access W c v n room w e =
     let b = then_fine (is_access n room) _ a.1 in
     let d = then_fine (is_memory W) _ b.1 in
     let p = then_fine (one_page v n) w d.1 in
-    let l = and_parts (ltb 0 n) (leb n 64 && leb n room) (unless_fine _ WrongLength n b.0) in
-    let r = and_parts (leb n 64) (leb n room) l.1 in
-    let o = and_parts (leb (v % 4096 + n) 4096) (ltb v (2 ^ 48)) (unless_fine _ CrossesPage v p.0) in
     record {
-      card = ltb-true c W.cards (unless_fine _ NoCard c a.0);
-      some = ltb-true 0 n l.0;
-      short = leb-true n 64 r.0;
-      roomy = leb-true n room r.1;
-      memory = eqb-true W.size (W.frames * 4096) (unless_fine _ OutsideMemory (W.frames * 4096) d.0);
-      page = leb-true (v % 4096 + n) 4096 o.0;
-      low = ltb-true v (2 ^ 48) o.1;
+      card = grind (arith, nat_tests);
+      some = grind (arith, nat_tests);
+      short = grind (arith, nat_tests);
+      roomy = grind (arith, nat_tests);
+      memory = grind (arith, nat_tests);
+      page = grind (arith, nat_tests);
+      low = grind (arith, nat_tests);
     }
 
 -- a map request that its checks let pass
@@ -74,14 +72,12 @@ admitted_facts W r w e =
     let d = then_fine (is_buffer x n) _ b.1 in
     let m = then_fine (in_memory W x n) _ d.1 in
     let f = then_fine (none_reserved W.reserved (x / 4096) (span x n)) w m.1 in
-    let l = and_parts (ltb 0 n) (leb (span x n) 8) (unless_fine _ WrongLength n d.0) in
-    let i = and_parts (eqb W.size (W.frames * 4096)) (leb (x + n) (W.frames * 4096)) (unless_fine _ OutsideMemory (W.frames * 4096) m.0) in
     record {
-      card = ltb-true r.card.0 W.cards (unless_fine _ NoCard r.card.0 a.0);
-      direction = leb-true r.direction 2 (unless_fine _ NoDirection r.direction b.0);
-      some = ltb-true 0 n l.0;
-      short = leb-true (span x n) 8 l.1;
-      memory = eqb-true W.size (W.frames * 4096) i.0;
-      inside = leb-true (x + n) (W.frames * 4096) i.1;
+      card = grind (arith, nat_tests);
+      direction = grind (arith, nat_tests);
+      some = grind (arith, nat_tests);
+      short = grind (arith, nat_tests);
+      memory = grind (arith, nat_tests);
+      inside = grind (arith, nat_tests);
       clean = none_of_lem ReservedFrame W.reserved (x / 4096) (span x n) f.0;
     }

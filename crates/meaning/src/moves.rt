@@ -1,4 +1,5 @@
 // The moves of bytes that calls make: each changes exactly the bytes that its definition names.
+// Each takes the whole memory and a place in it, and asks that this lies within: its definition speaks of every byte of memory.
 ghost use Rattle.std.specs.Prelude.{◌≡◌, ◌+◌, ◌≤◌, length};
 ghost use Rattle.meaning.specs.Memory.{bytes_of, clear, copy, paste, read_into};
 
@@ -27,7 +28,7 @@ pub fn clear_bytes(memory: &mut [u8], at: usize, count: usize)
     memory[at..at + count].fill(0);
 }
 
-// Reads bytes into the front of an answer buffer; its further bytes stay.
+// Reads bytes into the front of an answer buffer. The count stands beside the buffer, since its further bytes stay.
 pub fn read_bytes(memory: &[u8], from: usize, count: usize, out: &mut [u8])
     requires source { from + count ≤ length memory.now }
     requires room { count ≤ length out.old }

@@ -1,5 +1,5 @@
-// The words for an open mapping, in code.
-ghost use Rattle.std.specs.Prelude.{◌≡◌, ℕ, ◌+◌, ◌-◌, ◌/◌, ◌^◌, ◌<◌, ◌≤◌, Bool, true, ◌&&◌, if◌then◌else◌, None};
+// The words for an open mapping, in code. Card and device address, or page, are two parameters, as a mapper's calls have them.
+ghost use Rattle.std.specs.Prelude.{◌≡◌, ◌+◌, ◌-◌, ◌/◌, ◌<◌, ◌≤◌, true, ◌&&◌, if◌then◌else◌, None};
 ghost use Rattle.meaning.specs.Mappings.{card_holds, covers, on_page, reach_through, starts};
 ghost use Rattle.meaning.specs.Effects.{new_mapping};
 
@@ -34,16 +34,15 @@ pub fn is_on_page(mapping: &Mapping, card: Card, page: DevicePage) -> bool
     ensures near { result ≡ true → (mapping.now.device.0 / 4096 ≤ page.0) × (page.0 - mapping.now.device.0 / 4096 < 1048577) }
 {
     let first = mapping.device.page();
-    mapping.card == card && first.0 <= page.0 && page.0 - first.0 < mapping.buffer.span()
+    mapping.card == card && first <= page && page.0 - first.0 < mapping.buffer.span()
 }
 
 // The byte is in the mapping's buffer, and the card holds that.
 pub fn is_held_at(mapping: &Mapping, address: u32) -> bool
     ensures { result ≡ (card_holds mapping.now.holder && covers mapping.now address) }
 {
-    mapping.holder == Holder::ByCard
-        && mapping.buffer.address <= address
-        && (address as u64) < mapping.buffer.end()
+    let bytes = mapping.buffer.address as u64..mapping.buffer.end();
+    mapping.holder == Holder::ByCard && bytes.contains(&(address as u64))
 }
 
 // The frame and rights that the card finds through the mapping at a device page.

@@ -1,6 +1,7 @@
 -- The tests of lawful mappings, as facts, through every change.
-use Rattle.std.proofs.Common.{◌≡◌, ℕ, suc, ◌+◌, ◌*◌, ◌/◌, ◌%◌, ◌^◌, ◌<◌, ◌≤◌, true, false, not, ◌&&◌, eqb, ltb, leb, ◌⊎◌, List, [], ◌∷◌, sym, refl, ap, ◌∙◌, subst, inl, inr, arith}
-use Rattle.std.proofs.lemmas.Bool.{and_parts, and_from, leb-true, ltb-true, eqb-true, le-leb, lt-ltb, eq-eqb, not-true, cases_Bool, cases_lt, both_ways}
+use Rattle.std.proofs.Common.{◌≡◌, ℕ, suc, ◌+◌, ◌*◌, ◌/◌, ◌%◌, ◌^◌, ◌<◌, ◌≤◌, true, false, not, ◌&&◌, ◌⊎◌, List, [], ◌∷◌, sym, refl, ap, ◌∙◌, subst, inl, inr, arith}
+use Rattle.std.proofs.lemmas.Bool.Decides.{nat_tests}
+use Rattle.std.proofs.lemmas.Bool.{and_parts, and_from, not-true, cases_Bool, cases_lt}
 use Rattle.units.specs.declared.mapping.Holder.{Holder}
 use Rattle.units.specs.declared.mapping.Mapping.{Mapping}
 use Rattle.meaning.specs.Mappings.{In, Pairwise, Pages, first_page, page_count, key, starts, turned, insert, remove, turn}
@@ -21,55 +22,29 @@ pub record Fitting (S : Setup) (m : Mapping) : Type 0 where
   pub high : first_page m + page_count m ≤ suc (last_of S m.card.0)
 
 pub fits_facts : (S : Setup) (m : Mapping) → fits S m ≡ true → Fitting S m
-fits_facts S m e =
-    let a = and_parts (ltb m.card.0 S.cards) _ e in
-    let b = and_parts (ltb 0 m.buffer.length) _ a.1 in
-    let c = and_parts (leb (page_count m) 8) _ b.1 in
-    let d = and_parts (leb (m.buffer.address + m.buffer.length) (S.frames * 4096)) _ c.1 in
-    let f = and_parts (eqb m.landing m.buffer.address) _ d.1 in
-    let g = and_parts (eqb (m.device.0 % 4096) (m.buffer.address % 4096)) _ f.1 in
-    let h = and_parts (leb 1 (first_page m)) (leb (first_page m + page_count m) (suc (last_of S m.card.0))) g.1 in
-    record {
-      card = ltb-true m.card.0 S.cards a.0;
-      some = ltb-true 0 m.buffer.length b.0;
-      short = leb-true (page_count m) 8 c.0;
-      inside = leb-true (m.buffer.address + m.buffer.length) (S.frames * 4096) d.0;
-      own = eqb-true m.landing m.buffer.address f.0;
-      offset = eqb-true (m.device.0 % 4096) (m.buffer.address % 4096) g.0;
-      low = leb-true 1 (first_page m) h.0;
-      high = leb-true (first_page m + page_count m) (suc (last_of S m.card.0)) h.1;
-    }
+fits_facts S m e = record {
+  card = grind (arith, nat_tests);
+  some = grind (arith, nat_tests);
+  short = grind (arith, nat_tests);
+  inside = grind (arith, nat_tests);
+  own = grind (arith, nat_tests);
+  offset = grind (arith, nat_tests);
+  low = grind (arith, nat_tests);
+  high = grind (arith, nat_tests);
+}
 
 pub fits_test : (S : Setup) (m : Mapping) → Fitting S m → fits S m ≡ true
-fits_test S m f =
-    and_from (ltb m.card.0 S.cards) _ (lt-ltb m.card.0 S.cards f.card)
-    (and_from (ltb 0 m.buffer.length) _ (lt-ltb 0 m.buffer.length f.some)
-    (and_from (leb (page_count m) 8) _ (le-leb (page_count m) 8 f.short)
-    (and_from (leb (m.buffer.address + m.buffer.length) (S.frames * 4096)) _ (le-leb (m.buffer.address + m.buffer.length) (S.frames * 4096) f.inside)
-    (and_from (eqb m.landing m.buffer.address) _ (eq-eqb m.landing m.buffer.address f.own)
-    (and_from (eqb (m.device.0 % 4096) (m.buffer.address % 4096)) _ (eq-eqb (m.device.0 % 4096) (m.buffer.address % 4096) f.offset)
-    (and_from (leb 1 (first_page m)) (leb (first_page m + page_count m) (suc (last_of S m.card.0))) (le-leb 1 (first_page m) f.low)
-    (le-leb (first_page m + page_count m) (suc (last_of S m.card.0)) f.high)))))))
+fits_test S m f = grind (arith, nat_tests)
 
 -- a common page, and none
 pub share_none : (m n : Mapping) → share m n ≡ false → m.card.0 ≡ n.card.0 → (p : ℕ) → Pages m p → Pages n p → ⊥
-share_none m n e c p a b =
-    let a₀ = a.from in
-    let a₁ = a.to in
-    let b₀ = b.from in
-    let b₁ = b.to in
-    both_ways (share m n) e
-    (and_from (eqb m.card.0 n.card.0) _ (eq-eqb m.card.0 n.card.0 c)
-    (and_from (ltb (first_page m) (first_page n + page_count n)) (ltb (first_page n) (first_page m + page_count m))
-    (lt-ltb (first_page m) (first_page n + page_count n) (omega arith)) (lt-ltb (first_page n) (first_page m + page_count m) (omega arith))))
+share_none m n e c p a b = grind (arith, nat_tests)
 
 pub share_test : (m n : Mapping) → 0 < page_count m → 0 < page_count n → (m.card.0 ≡ n.card.0 → (p : ℕ) → Pages m p → Pages n p → ⊥) → share m n ≡ false
 share_test m n pm pn h = elim (cases_Bool (share m n)) [
-  | inl t ↦ (let a = and_parts (eqb m.card.0 n.card.0) _ t in
-      let b = and_parts (ltb (first_page m) (first_page n + page_count n)) (ltb (first_page n) (first_page m + page_count m)) a.1 in
-      let l = ltb-true (first_page m) (first_page n + page_count n) b.0 in
-      let r = ltb-true (first_page n) (first_page m + page_count m) b.1 in
-      let same = eqb-true m.card.0 n.card.0 a.0 in
+  | inl t ↦ (let same : m.card.0 ≡ n.card.0 = grind (arith, nat_tests) in
+      let l : first_page m < first_page n + page_count n = grind (arith, nat_tests) in
+      let r : first_page n < first_page m + page_count m = grind (arith, nat_tests) in
       elim (cases_lt (first_page m) (first_page n)) [
         | inl lt ↦ absurd (h same (first_page n) (record { from = omega arith; to = r }) (record { from = omega arith; to = omega arith }))
         | inr ge ↦ absurd (h same (first_page m) (record { from = omega arith; to = omega arith }) (record { from = ge; to = l }))

@@ -15,7 +15,7 @@ use Rattle.pages.proofs.Facts.{Fitting, lawful_facts, share_none, lawful_remove,
 use Rattle.pages.proofs.Taking.{grown}
 
 not_reserved : false ≡ true → ⊥
-not_reserved e = let z : ◌≡◌ {A = ℕ} 0 1 = cc in omega arith
+not_reserved e = cc
 
 pub disjoint : (S : Setup) (o : List Mapping) → lawful S o ≡ true → DisjointPages S o
 disjoint S o e =

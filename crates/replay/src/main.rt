@@ -2,6 +2,7 @@
 #![tactic(auto)]
 
 use engine::Engine;
+use mapper::Mapper;
 use runs::Reply;
 use script::{Reader, Record};
 use session::{bare_windows, play};
@@ -90,7 +91,7 @@ fn play_all(
 }
 
 fn print_blocks(rt: &HostRuntime, engine: &Engine<Windows>) -> anyhow::Result<()> {
-    for card in 0..2 {
+    for card in 0..engine.mapper.cards() {
         if let Ok(report) = engine.report(Card(card)) {
             let count = report.count;
             println!(rt; "card {card} blocked {count}")?;

@@ -18,7 +18,7 @@ use Rattle.runs.specs.declared.command.Step.{Step}
 -- the call that a command makes, with answer buffer t
 abbrev pub meant : Command → List ℕ → Call
 meant (Map r) t = map r
-meant (Unmap c d v n) t = unmap c.0 d v.0 n
+meant (Unmap r) t = unmap r.card.0 r.direction r.device.0 r.length
 meant (Sync s c v) t = sync s c.0 v.0
 meant (CpuRead a n) t = cpu_read a n t
 meant (CpuWrite a b) t = cpu_write a b.now

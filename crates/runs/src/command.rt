@@ -1,16 +1,11 @@
 // A call as a value, what it is answered, and a step of a run.
-use units::{Card, DeviceAddress, Fault, Report, Request, Sync};
+use units::{Card, DeviceAddress, Fault, Report, Request, Sync, UnmapRequest};
 
-// One of the nine calls; a write borrows its bytes.
+// A call; a write borrows its bytes. No twin of a script's record, which asks for no report and has counts of one byte.
 #[derive(Clone, Copy, Debug, PartialEq, Eq)]
 pub enum Command<'a> {
     Map(Request),
-    Unmap {
-        card: Card,
-        direction: u8,
-        device: DeviceAddress,
-        length: u32,
-    },
+    Unmap(UnmapRequest),
     Sync {
         call: Sync,
         card: Card,
@@ -48,7 +43,8 @@ pub enum Reply {
     Told(Report),
 }
 
-// A call with an answer buffer of its own, and its reply or refusal once it has run.
+// A call with an answer buffer of its own, and its reply or refusal once it has run. Before that, what stands there is not read;
+// an `Option` would have to be taken apart in each promise on a list of steps.
 #[derive(Drop)]
 pub struct Step<'a> {
     pub command: Command<'a>,

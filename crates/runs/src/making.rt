@@ -1,6 +1,5 @@
 // Calls made one after the other, each as the definition of the calls says.
-ghost use Rattle.std.specs.Prelude.{◌≡◌, ℕ, List, length};
-ghost use Rattle.meaning.specs.Told.{tells_at, tells_done, tells_bytes, tells_report};
+ghost use Rattle.std.specs.Prelude.{◌≡◌};
 ghost use Rattle.mapper.specs.Called.{here};
 ghost use Rattle.engine.specs.Made.{state};
 ghost use Rattle.runs.specs.Commands.{meant, spoken, MadeOne, call_of, answer_of, Ran};
@@ -10,7 +9,7 @@ use engine::Engine;
 use mapper::Mapper;
 use units::Fault;
 
-// Makes one call; only a read touches the answer buffer.
+// Makes one call; only a read touches the answer buffer. A match, since calls are data: they stand in lists, and a run is told of the whole list.
 pub fn make<M: Mapper>(
     engine: &mut Engine<M>,
     memory: &mut [u8],
@@ -21,14 +20,7 @@ pub fn make<M: Mapper>(
 {
     match command {
         Command::Map(request) => engine.map(memory, request).map(Reply::At),
-        Command::Unmap {
-            card,
-            direction,
-            device,
-            length,
-        } => engine
-            .unmap(memory, card, direction, device, length)
-            .map(|()| Reply::Done),
+        Command::Unmap(request) => engine.unmap(memory, request).map(|()| Reply::Done),
         Command::Sync { call, card, device } => engine
             .sync(memory, call, card, device)
             .map(|()| Reply::Done),

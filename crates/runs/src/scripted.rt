@@ -14,17 +14,7 @@ impl<'s> From<Record<'s>> for Command<'s> {
     fn from(asked: Record<'s>) -> Command<'s> {
         match asked {
             Record::Map(request) => Command::Map(request),
-            Record::Unmap {
-                card,
-                direction,
-                device,
-                length,
-            } => Command::Unmap {
-                card,
-                direction,
-                device,
-                length,
-            },
+            Record::Unmap(request) => Command::Unmap(request),
             Record::Sync { call, card, device } => Command::Sync { call, card, device },
             Record::CpuWrite { address, bytes } => Command::CpuWrite { address, bytes },
             Record::CpuRead { address, count } => Command::CpuRead {

@@ -20,7 +20,7 @@ pub data Item : Type 0 where
 -- the item that a record stands for
 abbrev pub meant : Record → Item
 meant (Map r) = map r
-meant (Unmap c d a n) = unmap c d a n
+meant (Unmap r) = unmap r.card r.direction r.device r.length
 meant (Sync ForCpu c a) = sync_for_cpu c a
 meant (Sync ForCard c a) = sync_for_card c a
 meant (CpuWrite a b) = cpu_write a b.now

@@ -1,4 +1,4 @@
-// The fields of a record's value, by the place where each begins.
+// The fields of a record's value, by the place where each begins. Each asks that the field lies within the value, whose length its caller has checked.
 ghost use Rattle.std.specs.Prelude.{◌≡◌, ◌+◌, ◌≤◌, length, take, drop};
 ghost use Rattle.script.specs.Values.{word, device};
 

@@ -1,6 +1,6 @@
 // Reads a script record by record.
 ghost use Rattle.std.specs.Prelude.{◌≡◌, ◌+◌, ◌≤◌, length, take, IfSome, Some};
-ghost use Rattle.script.specs.Format.{whole_end, standing, item_at, answer_of, on_from};
+ghost use Rattle.script.specs.Format.{whole_end, item_at, answer_of, on_from};
 ghost use Rattle.script.specs.Readers.{parsed, answered, script_of, place_of, ahead, Past, Forward};
 
 use crate::record::Record;
@@ -10,7 +10,7 @@ use units::{Fault, FaultKind};
 // The most bytes that a script has.
 const LONGEST: usize = 16_384;
 
-// A script that is lent, and how far it has been read.
+// A script that is lent, and how far it has been read: the position stands beside the slice, since a refusal tells it.
 #[derive(Drop)]
 pub struct Reader<'s> {
     script: &'s [u8],
@@ -36,7 +36,7 @@ impl<'s> Reader<'s> {
         self.position
     }
 
-    // The next record, or none at the end; a refusal leaves the reader where it is.
+    // The next record, or none at the end; a refusal leaves the reader where it is, so this is no `Iterator`, which would refuse without end.
     pub fn next(&mut self) -> Result<Option<Record<'s>>, Fault>
         ensures answer { answered result ≡ answer_of (ahead self.old) }
         ensures moved { place_of self.new ≡ on_from (place_of self.old) (ahead self.old) }

@@ -1,16 +1,11 @@
 // One call of a script.
-use units::{Card, DeviceAddress, Request, Sync};
+use units::{Card, DeviceAddress, Request, Sync, UnmapRequest};
 
 // A record's fields; the bytes of a write are lent by the script.
 #[derive(Clone, Copy, Debug, PartialEq, Eq)]
 pub enum Record<'s> {
     Map(Request),
-    Unmap {
-        card: Card,
-        direction: u8,
-        device: DeviceAddress,
-        length: u32,
-    },
+    Unmap(UnmapRequest),
     Sync {
         call: Sync,
         card: Card,

@@ -4,9 +4,9 @@ ghost use Rattle.script.specs.Values.{told, has_data, map_of, unmap_of, sync_of,
 
 use crate::field::{device_at, word_at};
 use crate::record::Record;
-use units::{Buffer, Card, FaultKind, Request, Sync};
+use units::{Buffer, Card, FaultKind, Request, Sync, UnmapRequest};
 
-// The record that a tag and a value make.
+// The record that a tag and a value make. A match and no table of functions: the tag is a byte of the format, and each form has fields of its own.
 pub fn read_value(tag: u8, value: &[u8]) -> Result<Record<'_>, FaultKind>
     ensures { told result ≡ item_of tag value.now }
 {
@@ -60,12 +60,12 @@ fn unmap(value: &[u8]) -> Result<Record<'_>, FaultKind>
     ensures { told result ≡ unmap_of value.now }
 {
     let value = sized::<14>(value)?;
-    Ok(Record::Unmap {
+    Ok(Record::Unmap(UnmapRequest {
         card: Card(value[0]),
         direction: value[1],
         device: device_at(value, 2),
         length: word_at(value, 10),
-    })
+    }))
 }
 
 // Card and device address.

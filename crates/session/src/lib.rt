@@ -1,14 +1,11 @@
 // A script's records played over an engine with windows.
 #![tactic(auto)]
 
-ghost use Rattle.std.specs.Prelude.{◌≡◌, List, [], ℕ};
-ghost use Rattle.mapper.specs.Called.{here};
+ghost use Rattle.std.specs.Prelude.{◌≡◌, []};
 ghost use Rattle.engine.specs.Made.{no_reports};
 ghost use Rattle.runs.specs.Commands.{spoken, MadeOne};
 ghost use Rattle.runs.specs.Scripted.{call_for};
 ghost use Rattle.script.specs.Items.{meant as item_of};
-ghost use Rattle.window_table.specs.Choosing.{setup_of, window_kind};
-ghost use Rattle.window_table.specs.Left.{WindowsLeft};
 ghost use Rattle.window_table.specs.Slots.{opened_of};
 ghost use Rattle.session.specs.Playing.{last_pages};
 
@@ -25,10 +22,9 @@ pub fn bare_windows() -> Engine<Windows>
     ensures empty { opened_of result.mapper.table.windows ≡ [] }
     ensures counted { result.reports ≡ no_reports }
 {
-    let last = DevicePage(1_048_575);
     Engine::over(Windows::set_up(Geometry {
         cards: 2,
-        lasts: [last, last, last, last],
+        lasts: [DevicePage(1_048_575); 4],
         frames: 8,
     }))
 }

@@ -2,9 +2,13 @@
 use Rattle.std.specs.Prelude.{ℕ, ◌^◌, Bool, not, ◌&&◌, ◌||◌, nat_le, nat_lt, slice_index_or}
 use Rattle.units.specs.declared.number.Geometry.{Geometry}
 
--- a last page from 1 to 2^36 - 1, where there is such a card
+-- a page that may be a card's last: from 1 to 2^36 - 1
+abbrev pub may_be_last : ℕ → Bool
+may_be_last p = nat_le 1 p && nat_lt p (2 ^ 36)
+
+-- a last page, where there is such a card
 abbrev pub is_last : Bool → ℕ → Bool
-is_last card p = not card || (nat_le 1 p && nat_lt p (2 ^ 36))
+is_last card p = not card || may_be_last p
 
 -- the last device page of card c
 abbrev pub last_page : Geometry → ℕ → ℕ

@@ -1,5 +1,5 @@
 // A driver's buffer in main memory.
-ghost use Rattle.std.specs.Prelude.{◌≡◌, ◌+◌, ◌/◌, ◌%◌, ◌≤◌, Bool};
+ghost use Rattle.std.specs.Prelude.{◌≡◌, ◌+◌, ◌/◌, ◌%◌, ◌≤◌};
 ghost use Rattle.units.specs.Buffers.{span, whole};
 
 #[derive(Clone, Copy, Debug, PartialEq, Eq)]

@@ -1,14 +1,14 @@
 // Which way bytes go, and what that lets a card do.
-ghost use Rattle.std.specs.Prelude.{◌≡◌, Bool};
+ghost use Rattle.std.specs.Prelude.{◌≡◌};
 ghost use Rattle.units.specs.Directions.{allows, code_of, coded, rights_of};
 
 use crate::fault::FaultKind;
 
 #[derive(Clone, Copy, Debug, PartialEq, Eq)]
 pub enum Direction {
-    Both,
-    ToCard,
-    FromCard,
+    Both = 0,
+    ToCard = 1,
+    FromCard = 2,
 }
 
 // What a card does with bytes that it reaches.
@@ -30,11 +30,7 @@ impl From<Direction> for u8 {
     ghost from_gives = { λ d n. n ≡ code_of d };
 
     fn from(direction: Direction) -> u8 {
-        match direction {
-            Direction::Both => 0,
-            Direction::ToCard => 1,
-            Direction::FromCard => 2,
-        }
+        direction as u8
     }
 }
 

@@ -1,5 +1,5 @@
 // Why a call is refused: the kind, how many layers passed it on, and the place.
-ghost use Rattle.std.specs.Prelude.{◌≡◌, Bool};
+ghost use Rattle.std.specs.Prelude.{◌≡◌};
 ghost use Rattle.units.specs.Faults.{number_of, is_block_kind, raised, raises};
 
 // The refusals, by their numbers; the place that each carries stands beside it.
@@ -99,5 +99,5 @@ impl Fault {
 pub fn passed_on<T>(answer: Result<T, Fault>) -> Result<T, Fault>
     ensures { result ≡ raises answer }
 {
-    answer.map_err(|fault| fault.raise())
+    answer.map_err(Fault::raise)
 }

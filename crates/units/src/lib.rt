@@ -11,6 +11,6 @@ mod report;
 pub use buffer::Buffer;
 pub use direction::{Access, Direction, Rights};
 pub use fault::{Fault, FaultKind, passed_on};
-pub use mapping::{Holder, Mapping, Placement, Reach, Request, Sync};
+pub use mapping::{Holder, Mapping, Placement, Reach, Request, Sync, UnmapRequest};
 pub use number::{Card, DeviceAddress, DevicePage, Frame, Geometry};
 pub use report::{Block, Report};

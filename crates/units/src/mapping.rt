@@ -6,12 +6,23 @@ use crate::buffer::Buffer;
 use crate::direction::{Direction, Rights};
 use crate::number::{Card, DeviceAddress, Frame};
 
-// A map call: the direction is the caller's number, which may name none.
+// A map call.
 #[derive(Clone, Copy, Debug, PartialEq, Eq)]
 pub struct Request {
     pub card: Card,
+    // A number and no `Direction`: it may name none, which is refused with that number, after the card.
     pub direction: u8,
     pub buffer: Buffer,
+}
+
+// An unmap call: the mapping that starts at the card's device address, with the direction and length that the caller knows of it.
+#[derive(Clone, Copy, Debug, PartialEq, Eq)]
+pub struct UnmapRequest {
+    pub card: Card,
+    // A number, as in a map call.
+    pub direction: u8,
+    pub device: DeviceAddress,
+    pub length: u32,
 }
 
 // Where a mapper puts a buffer: the device address of its first byte, and the memory address where the card finds that byte.

@@ -1,14 +1,14 @@
 // What is numbered: each kind of number is a type of its own, so that one never passes for another.
-ghost use Rattle.std.specs.Prelude.{◌≡◌, ◌+◌, ◌*◌, ◌/◌, ◌%◌, ◌<◌, Bool, true};
+ghost use Rattle.std.specs.Prelude.{◌≡◌, ◌/◌, ◌%◌, ◌<◌};
 ghost use Rattle.std.specs.List.{list_all};
-ghost use Rattle.units.specs.Geometry.{in_range, is_last};
+ghost use Rattle.units.specs.Geometry.{in_range, may_be_last};
 
 // A frame of main memory, 4,096 bytes.
 #[derive(Clone, Copy, Debug, PartialEq, Eq)]
 pub struct Frame(pub u32);
 
 // A page of a card's device address space, 4,096 bytes.
-#[derive(Clone, Copy, Debug, PartialEq, Eq)]
+#[derive(Clone, Copy, Debug, PartialEq, Eq, PartialOrd, Ord)]
 pub struct DevicePage(pub u64);
 
 // What a card puts on the bus: device page times 4,096 plus offset.
@@ -47,6 +47,7 @@ impl DeviceAddress {
 // The numbers of a set-up: how many cards, the last device page of each, and how many frames of memory.
 #[derive(Clone, Copy, Debug, PartialEq, Eq)]
 pub struct Geometry {
+    // Beside a fixed array and no slice of it: a set-up that asks for more than 4 cards is refused, and memory is fixed.
     pub cards: u8,
     pub lasts: [DevicePage; 4],
     pub frames: u32,
@@ -57,6 +58,7 @@ impl Geometry {
     pub fn is_in_range(&self) -> bool
         ensures { result ≡ in_range self.now }
     {
+        // Comparisons and no ranges with `contains`: with those the proof did not close.
         self.cards >= 1
             && self.cards <= 4
             && self.frames >= 1
@@ -67,9 +69,9 @@ impl Geometry {
 
 // Each page may be a card's last.
 fn are_last_pages(pages: &[DevicePage]) -> bool
-    ensures { result ≡ list_all (λ p. is_last true p.0) pages.now }
+    ensures { result ≡ list_all (λ p. may_be_last p.0) pages.now }
 {
     pages
         .iter()
-        .all(|page| page.0 >= 1 && page.0 < 0x10_0000_0000)
+        .all(|page| (1..0x10_0000_0000).contains(&page.0))
 }

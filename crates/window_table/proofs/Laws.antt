@@ -1,6 +1,7 @@
 -- The window mapper keeps the laws.
-use Rattle.std.proofs.Common.{◌≡◌, ℕ, zero, suc, ◌^◌, ◌<◌, ◌≤◌, Bool, true, false, cond, ltb, leb, List, [], length, Some, None, Ok, Err, Option, sym, refl, ap, ◌∙◌, subst, inl, inr, arith}
-use Rattle.std.proofs.lemmas.Bool.{and_parts, leb-true, leb-false, ltb-true, lt-ltb, cases_Bool, cond-true, cond-false}
+use Rattle.std.proofs.Common.{◌≡◌, ℕ, zero, suc, ◌^◌, ◌<◌, ◌≤◌, Bool, true, false, cond, ltb, leb, List, [], length, Some, None, Ok, Err, Option, sym, refl, ap, subst, inl, inr, arith}
+use Rattle.std.proofs.lemmas.Bool.Decides.{nat_tests}
+use Rattle.std.proofs.lemmas.Bool.{leb-true, leb-false, lt-ltb, cases_Bool, cond-true}
 use Rattle.units.specs.declared.mapping.Mapping.{Mapping}
 use Rattle.units.specs.declared.mapping.Placement.{Placement}
 use Rattle.units.specs.declared.mapping.Request.{Request}
@@ -8,7 +9,7 @@ use Rattle.units.specs.declared.number.Geometry.{Geometry}
 use Rattle.units.specs.Buffers.{span}
 use Rattle.units.specs.declared.fault.FaultKind.TheVariants.{NoPages, NoRecord, WrongSetup}
 use Rattle.units.specs.Faults.{is_choice_kind}
-use Rattle.units.specs.Geometry.{is_last, last_page, in_range}
+use Rattle.units.specs.Geometry.{last_page, in_range}
 use Rattle.chooser.specs.Finding.{choice}
 use Rattle.chooser.proofs.Answer.{choice_none, choice_some}
 use Rattle.chooser.proofs.Same.{any_order}
@@ -31,20 +32,6 @@ use Rattle.window_table.proofs.Slots.{reach_windows, pages_same, pages_back}
 
 -- The choice ----------------------------------------------------------------------------------------------
 
-takes_pages : TakesPages window_choice
-unfolding window_choice
-takes_pages S o r q e = go (page_for S o r) refl e
-  where
-    room : (p : ℕ) (b : Bool) → cond b no_window (Ok (placed_at r p)) ≡ Ok q → q ≡ placed_at r p
-    room p true h = let z : ◌≡◌ {A = ℕ} 0 1 = cc in absurd (omega arith)
-    room p false h = cc
-
-    go : (f : Option ℕ) → page_for S o r ≡ f
-        → on_page_found f (span r.buffer.address r.buffer.length) (λ p. cond (leb 8 (length o)) no_window (Ok (placed_at r p))) ≡ Ok q
-        → (p : ℕ) × (page_for S o r ≡ Some p) × (q ≡ placed_at r p)
-    go None h k = let z : ◌≡◌ {A = ℕ} 0 1 = cc in absurd (omega arith)
-    go (Some p) h k = (p, h, room p (leb 8 (length o)) k)
-
 -- window by window or mapping by mapping, the chooser gives the same page
 pub same_page : (S : Setup) (ws : List Window) (r : Request) → 0 < r.buffer.length
     → choice page_number 1 (last_of S r.card.0) (all_pages r.card.0 ws) (span r.buffer.address r.buffer.length) ≡ page_for S (opened_of ws) r
@@ -56,12 +43,25 @@ same_page S ws r some =
 pub choice_full : (S : Setup) (o : List Mapping) (r : Request) → page_for S o r ≡ None
     → no_pages_for (span r.buffer.address r.buffer.length) ≡ window_choice S o r
 unfolding window_choice
-choice_full S o r e = sym (ap (λ (z : Option ℕ). on_page_found z (span r.buffer.address r.buffer.length) (λ p. cond (leb 8 (length o)) no_window (Ok (placed_at r p)))) e)
+choice_full S o r e = cc
 
-pub choice_found : (S : Setup) (o : List Mapping) (r : Request) (p : ℕ) → page_for S o r ≡ Some p
-    → cond (leb 8 (length o)) no_window (Ok (placed_at r p)) ≡ window_choice S o r
+pub choice_crowded : (S : Setup) (o : List Mapping) (r : Request) (p : ℕ) → page_for S o r ≡ Some p → leb 8 (length o) ≡ true → no_window ≡ window_choice S o r
 unfolding window_choice
-choice_found S o r p e = sym (ap (λ (z : Option ℕ). on_page_found z (span r.buffer.address r.buffer.length) (λ p. cond (leb 8 (length o)) no_window (Ok (placed_at r p)))) e)
+choice_crowded S o r p e f = cc
+
+pub choice_found : (S : Setup) (o : List Mapping) (r : Request) (p : ℕ) → page_for S o r ≡ Some p → leb 8 (length o) ≡ false → Ok (placed_at r p) ≡ window_choice S o r
+unfolding window_choice
+choice_found S o r p e f = cc
+
+takes_pages : TakesPages window_choice
+takes_pages S o r q e = go (page_for S o r) refl
+  where
+    go : (f : Option ℕ) → page_for S o r ≡ f → (p : ℕ) × (page_for S o r ≡ Some p) × (q ≡ placed_at r p)
+    go None h = let k = choice_full S o r h in absurd (cc)
+    go (Some p) h = elim (cases_Bool (leb 8 (length o))) [
+      | inl f ↦ (let k = choice_crowded S o r p h f in absurd (cc))
+      | inr f ↦ (let k = choice_found S o r p h f in (p, h, cc))
+    ]
 
 -- the choice in words
 pub choice_words : (S : Setup) (o : List Mapping) (r : Request) → 0 < r.buffer.length → Chooses S o r (window_choice S o r)
@@ -76,22 +76,17 @@ choice_words S o r some = go (page_for S o r) refl
       q,
       choice_some page_number 1 (last_of S r.card.0) (used_pages o r.card.0) (span r.buffer.address r.buffer.length) q pos e,
       (elim (cases_Bool (leb 8 (length o))) [
-        | inl t ↦ inl (leb-true 8 (length o) t, sym (choice_found S o r q e) ∙ cond-true (leb 8 (length o)) no_window (Ok (placed_at r q)) t)
-        | inr f ↦ inr (leb-false 8 (length o) f, sym (choice_found S o r q e) ∙ cond-false (leb 8 (length o)) no_window (Ok (placed_at r q)) f)
+        | inl t ↦ inl (leb-true 8 (length o) t, sym (choice_crowded S o r q e t))
+        | inr f ↦ inr (leb-false 8 (length o) f, sym (choice_found S o r q e f))
       ]),
     )
 
 -- an accepted request finds a window
 pub choice_room : (S : Setup) (o : List Mapping) (r : Request) (q : Placement) → window_choice S o r ≡ Ok q → length o < 8
-unfolding window_choice
 choice_room S o r q e = elim (cases_Bool (leb 8 (length o))) [
-  | inl t ↦ absurd (full (page_for S o r) (ap (λ (b : Bool). on_page_found (page_for S o r) (span r.buffer.address r.buffer.length) (λ p. cond b no_window (Ok (placed_at r p)))) (sym t) ∙ e))
+  | inl f ↦ (let t = takes_pages S o r q e in let k = choice_crowded S o r t.0 t.1 f in absurd (cc))
   | inr f ↦ leb-false 8 (length o) f
 ]
-  where
-    full : (f : Option ℕ) → on_page_found f (span r.buffer.address r.buffer.length) (λ p. no_window) ≡ Ok q → ⊥
-    full None k = let z : ◌≡◌ {A = ℕ} 0 1 = cc in omega arith
-    full (Some p) k = let z : ◌≡◌ {A = ℕ} 0 1 = cc in omega arith
 
 -- at its own address
 pub choice_own : (S : Setup) (o : List Mapping) (r : Request) (q : Placement) → window_choice S o r ≡ Ok q → q.landing ≡ r.buffer.address
@@ -126,7 +121,7 @@ pub window_bounds : (S : Setup) (o : List Mapping) → Possible S o → Bounds S
 window_bounds = bounds
 
 pub window_room : (S : Setup) (o : List Mapping) → Possible S o → EmptyRoom window_kind S
-window_room S o h r f = let e = choice_found S [] r (last_of S r.card.0) (first_page_lem S (none_reserved S) r h.0 f) in
+window_room S o h r f = let e = choice_found S [] r (last_of S r.card.0) (first_page_lem S (none_reserved S) r h.0 f) refl in
     subst Accepts e tt
 
 pub window_refusals : (S : Setup) (o : List Mapping) → Possible S o → ChoiceRefusals window_kind S o
@@ -136,35 +131,19 @@ window_refusals S o h r f e = go (page_for S o r) (leb 8 (length o)) e
     go : (p : Option ℕ) (b : Bool) → on_page_found p (span r.buffer.address r.buffer.length) (λ k. cond b no_window (Ok (placed_at r k))) ≡ Err f → is_choice_kind f.kind ≡ true
     go None b k = let z : f.kind ≡ NoPages = cc in ap is_choice_kind z
     go (Some p) true k = let z : f.kind ≡ NoRecord = cc in ap is_choice_kind z
-    go (Some p) false k = let z : ◌≡◌ {A = ℕ} 0 1 = cc in absurd (omega arith)
+    go (Some p) false k = absurd (cc)
 
 -- Set-up --------------------------------------------------------------------------------------------------
 
--- numbers in range
-last_in : (b : Bool) (p : ℕ) → is_last b p ≡ true → b ≡ true → (1 ≤ p) × (p < 2 ^ 36)
-last_in true p e h = let a = and_parts (leb 1 p) (ltb p (2 ^ 36)) e in (leb-true 1 p a.0, ltb-true p (2 ^ 36) a.1)
-last_in false p e h = let z : ◌≡◌ {A = ℕ} 0 1 = cc in absurd (omega arith)
-
 pub range_facts : (g : Geometry) → in_range g ≡ true → Ranged (setup_of g) × (0 < g.cards)
-range_facts g e =
-    let a = and_parts (leb 1 g.cards) _ e in
-    let b = and_parts (leb g.cards 4) _ a.1 in
-    let c = and_parts (leb 1 g.frames) _ b.1 in
-    let d = and_parts (leb g.frames 1024) _ c.1 in
-    let l0 = and_parts (is_last (ltb 0 g.cards) (last_page g 0)) _ d.1 in
-    let l1 = and_parts (is_last (ltb 1 g.cards) (last_page g 1)) _ l0.1 in
-    let l2 = and_parts (is_last (ltb 2 g.cards) (last_page g 2)) (is_last (ltb 3 g.cards) (last_page g 3)) l1.1 in
-    let some = leb-true 1 g.cards a.0 in
-    let four = leb-true g.cards 4 b.0 in
-    ((four, leb-true g.frames 1024 d.0, each four l0.0 l1.0 l2.0 l2.1), some)
+range_facts g e = ((grind (arith, nat_tests), grind (arith, nat_tests), each), grind (arith, nat_tests))
   where
-    each : g.cards ≤ 4 → is_last (ltb 0 g.cards) (last_page g 0) ≡ true → is_last (ltb 1 g.cards) (last_page g 1) ≡ true → is_last (ltb 2 g.cards) (last_page g 2) ≡ true
-        → is_last (ltb 3 g.cards) (last_page g 3) ≡ true → (c : ℕ) → c < g.cards → (1 ≤ last_page g c) × (last_page g c < 2 ^ 36)
-    each four l0 l1 l2 l3 zero h = last_in (ltb 0 g.cards) (last_page g 0) l0 (lt-ltb 0 g.cards h)
-    each four l0 l1 l2 l3 (suc zero) h = last_in (ltb 1 g.cards) (last_page g 1) l1 (lt-ltb 1 g.cards h)
-    each four l0 l1 l2 l3 (suc (suc zero)) h = last_in (ltb 2 g.cards) (last_page g 2) l2 (lt-ltb 2 g.cards h)
-    each four l0 l1 l2 l3 (suc (suc (suc zero))) h = last_in (ltb 3 g.cards) (last_page g 3) l3 (lt-ltb 3 g.cards h)
-    each four l0 l1 l2 l3 (suc (suc (suc (suc c)))) h = absurd (omega arith)
+    each : (c : ℕ) → c < g.cards → (1 ≤ last_page g c) × (last_page g c < 2 ^ 36)
+    each zero h = (grind (arith, nat_tests), grind (arith, nat_tests))
+    each (suc zero) h = (grind (arith, nat_tests), grind (arith, nat_tests))
+    each (suc (suc zero)) h = (grind (arith, nat_tests), grind (arith, nat_tests))
+    each (suc (suc (suc zero))) h = (grind (arith, nat_tests), grind (arith, nat_tests))
+    each (suc (suc (suc (suc c)))) h = let four : g.cards ≤ 4 = grind (arith, nat_tests) in absurd (omega arith)
 
 pub granted_ranged : (g : Geometry) → Ranged (setup_of (granted g))
 granted_ranged g = go (in_range g) refl

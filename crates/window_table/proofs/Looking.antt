@@ -1,27 +1,31 @@
 -- What the first window that answers with yes tells of the open mappings.
-use Rattle.std.proofs.Common.{◌≡◌, ℕ, zero, suc, ◌+◌, ◌<◌, ◌≤◌, inl, inr, Bool, true, false, cond, ◌&&◌, List, [], ◌∷◌, length, get_or, set, Some, None, Option, sym, refl, ap, ◌∙◌, arith, get_or-set_other, MatchOption, subst, unwrap_or, Bor, ext_get_or, MatchBool, not, leb, filter}
-use Rattle.std.specs.List.{AllWithin, HoldsAt}
+use Rattle.std.proofs.Common.{◌≡◌, ℕ, zero, suc, ◌+◌, ◌<◌, ◌≤◌, inl, inr, Bool, true, false, cond, ◌&&◌, ◌||◌, List, [], ◌∷◌, length, get_or, set, Some, None, Option, sym, refl, ap, ◌∙◌, ltb, arith, subst, Bor, ext_get_or, not, leb, filter}
+use Rattle.std.specs.List.{list_any, position_or_len, slice_get, find as first_of}
+use Rattle.std.specs.Option.{option_map}
+use Rattle.std.proofs.lemmas.List.Folds.{find_at}
+use Rattle.std.proofs.lemmas.List.Sums.{fails_before_first, passes_at_first}
+use Rattle.std.proofs.lemmas.Option.{slice_get_within, get_or_from_slice_get, slice_get-get_or}
+use Rattle.std.proofs.lemmas.Bool.Decides.{nat_tests}
 use Rattle.std.specs.Array.{IsMapOf, MapsFrom}
 use Rattle.std.specs.Fn.{Called}
 use denote.Param.Members.{Mut}
-use Rattle.std.proofs.lemmas.Bool.{cases_eq}
+use Rattle.std.proofs.lemmas.Bool.{cases_eq, cases_lt, cases_Bool}
 use Rattle.units.specs.declared.number.DevicePage.{DevicePage}
 use Rattle.chooser.specs.declared.gap.Range.{Range}
-use Rattle.std.proofs.lemmas.Bool.{cond-true, le-leb, lt-leb}
+use Rattle.std.proofs.lemmas.Bool.{cond-true}
 use Rattle.units.specs.declared.mapping.Holder.{Holder}
 use Rattle.units.specs.declared.mapping.Mapping.{Mapping}
-use Rattle.meaning.specs.Mappings.{starts, on_page, covers, card_holds, turned, remove, turn, find, held, reach_of, reach_through}
+use Rattle.meaning.specs.Mappings.{starts, on_page, covers, card_holds, turned, insert, remove, turn, find, held, reach_of, reach_through}
 use Rattle.meaning.specs.Worlds.{Setup}
 use Rattle.meaning.specs.Effects.{on_found}
-use Rattle.meaning.proofs.Lists.{find_in, find_none, held_in, held_none, reach_of_in, reach_none, remove_none, turn_none}
+use Rattle.meaning.proofs.Lists.{find_in, find_none, held_insert, reach_of_in, reach_none, remove_none, turn_none}
 use Rattle.meaning.proofs.Unique.{one_start, one_on_page}
 use Rattle.pages.specs.Lawful.{lawful}
 use Rattle.pages.proofs.Facts.{lawful_facts}
 use Rattle.pages.proofs.Laws.{disjoint}
 use Rattle.window_table.specs.declared.window.Window.{Window}
-use Rattle.window_table.specs.Left.{OneChanged}
 use Rattle.window_table.specs.Slots.{free_window, holding, is_free, has, opened_of, reach_by, no_pages, pages_in, all_pages}
-use Rattle.window_table.proofs.Slots.{in_opened, nowhere, count_none, count_free, count_held, count_room, count_full, close_window, turn_window}
+use Rattle.window_table.proofs.Slots.{in_opened, nowhere, count_none, count_free, count_held, count_most, close_window, turn_window}
 
 -- the mapping of a window of which a question holds
 record Such (such : Mapping → Bool) (w : Window) : Type 0 where
@@ -33,7 +37,7 @@ has_such : (such : Mapping → Bool) (w : Window) → has such w ≡ true → Su
 has_such such w e = go w.mapping refl e
   where
     go : (f : Option Mapping) → w.mapping ≡ f → on_found f false such ≡ true → Such such w
-    go None h k = let z : ◌≡◌ {A = ℕ} 0 1 = cc in absurd (omega arith)
+    go None h k = absurd (cc)
     go (Some m) h k = record { mapping = m; holds = h; is = k }
 
 module _ (S : Setup) (ws : List Window) (e : lawful S (opened_of ws) ≡ true) (i : ℕ) (l : i < length ws) where
@@ -65,14 +69,8 @@ module _ (S : Setup) (ws : List Window) (e : lawful S (opened_of ws) ≡ true) (
       let s = has_such (starts c v) (get_or ws i free_window) h in
       ap (λ (z : Window). opened_of (set ws i z)) (f s.mapping s.holds) ∙ turn_window S c v s.mapping s.is t ws i l s.holds e
 
-pub held_at : (b : ℕ) (ws : List Window) (i : ℕ) → i < length ws → has (λ m. card_holds m.holder && covers m b) (get_or ws i free_window) ≡ true → held (opened_of ws) b ≡ true
-held_at b ws i l h = let s = has_such (λ m. card_holds m.holder && covers m b) (get_or ws i free_window) h in held_in b (opened_of ws) s.mapping (in_opened ws i s.mapping l s.holds) s.is
-
 pub not_found : (c v : ℕ) (ws : List Window) → ((k : ℕ) → k < length ws → has (starts c v) (get_or ws k free_window) ≡ false) → find (opened_of ws) c v ≡ None
 not_found c v ws h = find_none c v (opened_of ws) (nowhere (starts c v) ws h)
-
-pub not_held : (b : ℕ) (ws : List Window) → ((k : ℕ) → k < length ws → has (λ m. card_holds m.holder && covers m b) (get_or ws k free_window) ≡ false) → held (opened_of ws) b ≡ false
-not_held b ws h = held_none b (opened_of ws) (nowhere (λ m. card_holds m.holder && covers m b) ws h)
 
 pub not_reached : (c p : ℕ) (ws : List Window) → ((k : ℕ) → k < length ws → has (on_page c p) (get_or ws k free_window) ≡ false) → reach_of (opened_of ws) c p ≡ None
 not_reached c p ws h = reach_none c p (opened_of ws) (nowhere (on_page c p) ws h)
@@ -83,71 +81,64 @@ not_closed c v ws h = sym (remove_none c v (opened_of ws) (nowhere (starts c v) 
 pub not_turned : (t : Holder) (c v : ℕ) (ws : List Window) → ((k : ℕ) → k < length ws → has (starts c v) (get_or ws k free_window) ≡ false) → opened_of ws ≡ turn t c v (opened_of ws)
 not_turned t c v ws h = sym (turn_none t c v (opened_of ws) (nowhere (starts c v) ws h))
 
--- One window at a time ------------------------------------------------------------------------------------
-
-pub one_set : (ws : List Window) (i : ℕ) (w : Window) → OneChanged ws (set ws i w)
-one_set ws i w = record { index = i; others = λ j ne. get_or-set_other ws i j w free_window ne }
-
-pub none_set : (ws : List Window) → OneChanged ws ws
-none_set ws = record { index = 0; others = λ j ne. refl }
-
 -- What a search of the windows gives ----------------------------------------------------------------------
 
 -- the place that a search gave
-pub found_place : (such : Window → Bool) (ws : List Window) (r : Option ℕ) (i : ℕ) → r ≡ Some i
-    → MatchOption r (AllWithin (λ w. such w ≡ false) ws 0 (length ws)) (λ k. (k < length ws) × HoldsAt (λ w. such w ≡ true) ws k × AllWithin (λ w. such w ≡ false) ws 0 k)
-    → (i < length ws) × (such (get_or ws i free_window) ≡ true)
-found_place such ws None i e h = let z : ◌≡◌ {A = ℕ} 0 1 = cc in absurd (omega arith)
-found_place such ws (Some k) i e h = let s : k ≡ i = cc in subst (λ (n : ℕ). (n < length ws) × (such (get_or ws n free_window) ≡ true)) s (h.0, h.1 free_window)
+abbrev place_in : (Window → Bool) → List Window → Option ℕ
+place_in such ws = cond (ltb (position_or_len such ws) (length ws)) (Some (position_or_len such ws)) None
+
+pub found_place : (such : Window → Bool) (ws : List Window) (i : ℕ) → Some i ≡ place_in such ws → (i < length ws) × (such (get_or ws i free_window) ≡ true)
+found_place such ws i e = (grind (arith, nat_tests), grind (arith, nat_tests, passes_at_first such ws free_window))
 
 -- it gave none
-pub found_none : (such : Window → Bool) (ws : List Window) (r : Option ℕ) → r ≡ None
-    → MatchOption r (AllWithin (λ w. such w ≡ false) ws 0 (length ws)) (λ k. (k < length ws) × HoldsAt (λ w. such w ≡ true) ws k × AllWithin (λ w. such w ≡ false) ws 0 k)
-    → (k : ℕ) → k < length ws → such (get_or ws k free_window) ≡ false
-found_none such ws None e h k l = h k free_window (omega arith) l
-found_none such ws (Some i) e h k l = let z : ◌≡◌ {A = ℕ} 0 1 = cc in absurd (omega arith)
+pub found_none : (such : Window → Bool) (ws : List Window) → None ≡ place_in such ws → (k : ℕ) → k < length ws → such (get_or ws k free_window) ≡ false
+found_none such ws e k l = fails_before_first such ws k free_window (grind (arith, nat_tests))
 
 -- the window that a search lent
-pub found_window : (such : Window → Bool) (ws : List Window) (r : Option (Bor Window)) (w : Bor Window) → r ≡ Some w
-    → MatchOption r (AllWithin (λ x. such x ≡ false) ws 0 (length ws))
-    (λ x. (such x.now ≡ true) × (k : ℕ) × (k < length ws) × HoldsAt (λ y. y ≡ x.now) ws k × AllWithin (λ y. such y ≡ false) ws 0 k)
+pub found_window : (such : Window → Bool) (ws : List Window) (r : Option (Bor Window)) (w : Bor Window) → r ≡ Some w → option_map (λ (x : Bor Window). x.now) r ≡ first_of such ws
     → (k : ℕ) × (k < length ws) × (such (get_or ws k free_window) ≡ true) × (get_or ws k free_window ≡ w.now)
-found_window such ws None w e h = let z : ◌≡◌ {A = ℕ} 0 1 = cc in absurd (omega arith)
-found_window such ws (Some x) w e (s, k, l, here, before) =
-    let same = here free_window in
-    let n : x.now ≡ w.now = ap (λ (o : Option (Bor Window)). (unwrap_or o x).now) e in
-    (k, l, ap such same ∙ s, same ∙ n)
+found_window such ws r w e h =
+    let k = position_or_len such ws in
+    let at : slice_get ws k ≡ Some w.now = sym (find_at such ws) ∙ sym h ∙ ap (option_map (λ (x : Bor Window). x.now)) e in
+    let l = slice_get_within ws k w.now at in
+    (k, l, passes_at_first such ws free_window l, get_or_from_slice_get ws k w.now free_window at)
 
 -- it lent none
-pub found_no_window : (such : Window → Bool) (ws : List Window) (r : Option (Bor Window)) → r ≡ None
-    → MatchOption r (AllWithin (λ x. such x ≡ false) ws 0 (length ws))
-    (λ x. (such x.now ≡ true) × (k : ℕ) × (k < length ws) × HoldsAt (λ y. y ≡ x.now) ws k × AllWithin (λ y. such y ≡ false) ws 0 k)
+pub found_no_window : (such : Window → Bool) (ws : List Window) (r : Option (Bor Window)) → r ≡ None → option_map (λ (x : Bor Window). x.now) r ≡ first_of such ws
     → (k : ℕ) → k < length ws → such (get_or ws k free_window) ≡ false
-found_no_window such ws None e h k l = h k free_window (omega arith) l
-found_no_window such ws (Some x) e h k l = let z : ◌≡◌ {A = ℕ} 0 1 = cc in absurd (omega arith)
+found_no_window such ws r e h k l =
+    let past : slice_get ws (position_or_len such ws) ≡ None = sym (find_at such ws) ∙ sym h ∙ ap (option_map (λ (x : Bor Window). x.now)) e in
+    elim (cases_lt k (position_or_len such ws)) [
+      | inl before ↦ fails_before_first such ws k free_window before
+      | inr after ↦ (let here = slice_get-get_or ws (position_or_len such ws) free_window (omega arith) in absurd (cc))
+    ]
 
 pub count_filter : (ws : List Window) → length (filter (λ w. not (is_free w)) ws) ≡ length (opened_of ws)
 count_filter [] = sym count_none
-count_filter (w ∷ ws) = go (is_free w) refl (count_filter ws)
+count_filter (w ∷ ws) = let later = count_filter ws in elim (cases_Bool (is_free w)) [
+  | inl e ↦ grind (arith, nat_tests, count_free w ws e)
+  | inr e ↦ grind (arith, nat_tests, count_held w ws e)
+]
+
+-- whether a window is free
+pub full_any : (ws : List Window) → not (list_any is_free ws) ≡ leb (length ws) (length (opened_of ws))
+full_any [] = ap (leb 0) (sym count_none)
+full_any (w ∷ ws) = go (is_free w) refl (full_any ws)
   where
-    go : (b : Bool) → is_free w ≡ b → length (filter (λ x. not (is_free x)) ws) ≡ length (opened_of ws)
-        → length (cond (not b) (w ∷ filter (λ x. not (is_free x)) ws) (filter (λ x. not (is_free x)) ws)) ≡ length (opened_of (w ∷ ws))
-    go true e later = later ∙ sym (count_free w ws e)
-    go false e later = ap suc later ∙ sym (count_held w ws e)
+    go : (b : Bool) → is_free w ≡ b → not (list_any is_free ws) ≡ leb (length ws) (length (opened_of ws)) → not (b || list_any is_free ws) ≡ leb (suc (length ws)) (length (opened_of (w ∷ ws)))
+    go true e later = grind (arith, nat_tests, count_most ws, count_free w ws e)
+    go false e later = grind (arith, nat_tests, count_held w ws e)
 
--- whether any window is free, as a search of 8 windows tells
-pub full_any : (ws : List Window) (r : Bool) → length ws ≡ 8
-    → MatchBool r ((k : ℕ) × (k < length ws) × HoldsAt (λ w. is_free w ≡ true) ws k) (AllWithin (λ w. is_free w ≡ false) ws 0 (length ws))
-    → not r ≡ leb 8 (length (opened_of ws))
-full_any ws true e (k, h, i) = let l = count_room ws k h (i free_window) in sym (lt-leb 8 (length (opened_of ws)) (omega arith))
-full_any ws false e h = let l = count_full ws (λ k i. h k free_window (omega arith) i) in sym (le-leb 8 (length (opened_of ws)) (omega arith))
-
--- whether any window's buffer has the byte and is held by the card, as a search tells
-pub held_any : (b : ℕ) (ws : List Window) (r : Bool)
-    → MatchBool r ((k : ℕ) × (k < length ws) × HoldsAt (λ w. has (λ m. card_holds m.holder && covers m b) w ≡ true) ws k) (AllWithin (λ w. has (λ m. card_holds m.holder && covers m b) w ≡ false) ws 0 (length ws))
-    → r ≡ held (opened_of ws) b
-held_any b ws true (k, h, i) = sym (held_at b ws k h (i free_window))
-held_any b ws false h = sym (not_held b ws (λ k i. h k free_window (omega arith) i))
+-- whether a window's buffer has the byte and is held by the card
+pub held_any : (b : ℕ) (ws : List Window) → list_any (has (λ m. card_holds m.holder && covers m b)) ws ≡ held (opened_of ws) b
+unfolding opened_of held
+held_any b [] = refl
+held_any b (w ∷ ws) = go w.mapping (held_any b ws)
+  where
+    go : (f : Option Mapping) → list_any (has (λ m. card_holds m.holder && covers m b)) ws ≡ held (opened_of ws) b
+        → (on_found f false (λ m. card_holds m.holder && covers m b) || list_any (has (λ m. card_holds m.holder && covers m b)) ws) ≡ held (on_found f (opened_of ws) (λ m. insert m (opened_of ws))) b
+    go None later = later
+    go (Some m) later = ap (λ (z : Bool). (card_holds m.holder && covers m b) || z) later ∙ sym (held_insert b m (opened_of ws))
 
 pub pages_length : (c : ℕ) (ws : List Window) → length (all_pages c ws) ≡ length ws
 unfolding all_pages

@@ -25,12 +25,12 @@ step x xs f e = ap (λ (z : Option Mapping). on_found z (opened_of xs) (λ m. in
 
 pub in_opened : (ws : List Window) (i : ℕ) (m : Mapping) → i < length ws → (get_or ws i free_window).mapping ≡ Some m → In m (opened_of ws)
 in_opened [] i m l e = absurd (omega arith)
-in_opened (x ∷ xs) zero m l e = subst (λ (z : List Mapping). In m z) (sym (step x xs (Some m) e)) (insert_in m (opened_of xs))
+in_opened (x ∷ xs) zero m l e = subst (In m) (sym (step x xs (Some m) e)) (insert_in m (opened_of xs))
 in_opened (x ∷ xs) (suc i) m l e = go x.mapping refl (in_opened xs i m (omega arith) e)
   where
     go : (f : Option Mapping) → x.mapping ≡ f → In m (opened_of xs) → In m (opened_of (x ∷ xs))
-    go None h later = subst (λ (z : List Mapping). In m z) (sym (step x xs None h)) later
-    go (Some k) h later = subst (λ (z : List Mapping). In m z) (sym (step x xs (Some k) h)) (insert_keeps k m (opened_of xs) later)
+    go None h later = subst (In m) (sym (step x xs None h)) later
+    go (Some k) h later = subst (In m) (sym (step x xs (Some k) h)) (insert_keeps k m (opened_of xs) later)
 
 -- a window that holds the mapping
 pub record HolderOf (ws : List Window) (m : Mapping) : Type 0 where
@@ -69,20 +69,22 @@ nowhere such ws h m i = let o = opened_in ws m i in
 
 -- How many ------------------------------------------------------------------------------------------------
 
-pub count_free : (x : Window) (xs : List Window) → is_free x ≡ true → length (opened_of (x ∷ xs)) ≡ length (opened_of xs)
-unfolding opened_of
-count_free x xs e = go x.mapping e
+pub free_is : (w : Window) → is_free w ≡ true → w.mapping ≡ None
+free_is w e = go w.mapping e
   where
-    go : (f : Option Mapping) → on_found f true (λ m. false) ≡ true → length (on_found f (opened_of xs) (λ m. insert m (opened_of xs))) ≡ length (opened_of xs)
+    go : (f : Option Mapping) → on_found f true (λ m. false) ≡ true → f ≡ None
     go None e = refl
-    go (Some m) e = let z : ◌≡◌ {A = ℕ} 0 1 = cc in absurd (omega arith)
+    go (Some m) e = absurd (cc)
+
+pub count_free : (x : Window) (xs : List Window) → is_free x ≡ true → length (opened_of (x ∷ xs)) ≡ length (opened_of xs)
+count_free x xs e = ap length (step x xs None (free_is x e))
 
 pub count_held : (x : Window) (xs : List Window) → is_free x ≡ false → length (opened_of (x ∷ xs)) ≡ suc (length (opened_of xs))
 unfolding opened_of
 count_held x xs e = go x.mapping e
   where
     go : (f : Option Mapping) → on_found f true (λ m. false) ≡ false → length (on_found f (opened_of xs) (λ m. insert m (opened_of xs))) ≡ suc (length (opened_of xs))
-    go None e = let z : ◌≡◌ {A = ℕ} 0 1 = cc in absurd (omega arith)
+    go None e = absurd (cc)
     go (Some m) e = length_insert m (opened_of xs)
 
 pub count_none : length (opened_of []) ≡ 0
@@ -100,22 +102,7 @@ pub count_full : (ws : List Window) → ((k : ℕ) → k < length ws → is_free
 count_full [] h = count_none
 count_full (x ∷ xs) h = count_held x xs (h 0 (omega arith)) ∙ ap suc (count_full xs (λ k l. h (suc k) (omega arith)))
 
-pub count_room : (ws : List Window) (i : ℕ) → i < length ws → is_free (get_or ws i free_window) ≡ true → length (opened_of ws) < length ws
-count_room [] i l e = absurd (omega arith)
-count_room (x ∷ xs) zero l e = let z = count_free x xs e in let m = count_most xs in omega arith
-count_room (x ∷ xs) (suc i) l e = let later = count_room xs i (omega arith) e in elim (cases_Bool (is_free x)) [
-  | inl f ↦ (let z = count_free x xs f in omega arith)
-  | inr f ↦ (let z = count_held x xs f in omega arith)
-]
-
 -- Changes of one window -----------------------------------------------------------------------------------
-
-pub free_is : (w : Window) → is_free w ≡ true → w.mapping ≡ None
-free_is w e = go w.mapping e
-  where
-    go : (f : Option Mapping) → on_found f true (λ m. false) ≡ true → f ≡ None
-    go None e = refl
-    go (Some m) e = let z : ◌≡◌ {A = ℕ} 0 1 = cc in absurd (omega arith)
 
 pub open_window : (ws : List Window) (i : ℕ) (m : Mapping) → i < length ws → (get_or ws i free_window).mapping ≡ None → ((n : Mapping) → In n (opened_of ws) → key n ≡ key m → ⊥)
     → opened_of (set ws i (holding m)) ≡ insert m (opened_of ws)
@@ -125,9 +112,9 @@ open_window (x ∷ xs) (suc i) m l e h = go x.mapping refl (λ k. open_window xs
   where
     go : (f : Option Mapping) → x.mapping ≡ f → (((n : Mapping) → In n (opened_of xs) → key n ≡ key m → ⊥) → opened_of (set xs i (holding m)) ≡ insert m (opened_of xs))
         → opened_of (x ∷ set xs i (holding m)) ≡ insert m (opened_of (x ∷ xs))
-    go None s later = step x _ None s ∙ later (λ n j. h n (subst (λ (z : List Mapping). In n z) (sym (step x xs None s)) j)) ∙ ap (insert m) (sym (step x xs None s))
+    go None s later = step x _ None s ∙ later (λ n j. h n (subst (In n) (sym (step x xs None s)) j)) ∙ ap (insert m) (sym (step x xs None s))
     go (Some k) s later =
-        let all : (n : Mapping) → In n (insert k (opened_of xs)) → key n ≡ key m → ⊥ = λ n j. h n (subst (λ (z : List Mapping). In n z) (sym (step x xs (Some k) s)) j) in
+        let all : (n : Mapping) → In n (insert k (opened_of xs)) → key n ≡ key m → ⊥ = λ n j. h n (subst (In n) (sym (step x xs (Some k) s)) j) in
         step x _ (Some k) s ∙ ap (insert k) (later (λ n j. all n (insert_keeps k n (opened_of xs) j)))
         ∙ insert_comm k m (opened_of xs) (all k (insert_in k (opened_of xs))) ∙ ap (insert m) (sym (step x xs (Some k) s))
 

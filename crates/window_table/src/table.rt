@@ -1,5 +1,5 @@
 // The fixed table of windows, one lent at a time to open, turn or close it.
-ghost use Rattle.std.specs.Prelude.{◌≡◌, ℕ, ◌<◌, ◌≤◌, Bool, true, false, length, ◌≢◌, nat_le};
+ghost use Rattle.std.specs.Prelude.{◌≡◌, ◌<◌, true, length, ◌≢◌, nat_le};
 ghost use Rattle.units.specs.declared.mapping.Mapping.{Mapping as Opened};
 ghost use Rattle.meaning.specs.Mappings.{In, key, insert, remove, turn, find, held, reach_of};
 ghost use Rattle.meaning.specs.Worlds.{Setup};
@@ -13,9 +13,11 @@ use units::{Card, DeviceAddress, DevicePage, Holder, Mapping, Reach};
 
 #[derive(Clone, Copy, Debug, PartialEq, Eq)]
 pub struct WindowTable {
+    // 8, since memory is fixed.
     pub windows: [Window; 8],
 }
 
+// Card and device address are two parameters, as in `Mapper`.
 impl WindowTable {
     // How many windows hold a mapping.
     pub fn count(&self) -> u32
@@ -40,6 +42,7 @@ impl WindowTable {
     }
 
     // The mapping of the card that starts at the device address.
+    // That the open mappings are lawful is a premise here and below, and no invariant: `open` would then ask it of its caller.
     pub fn mapping_at(&self, card: Card, device: DeviceAddress) -> Option<Mapping>
         ensures { (S : Setup) → lawful S (opened_of self.now.windows) ≡ true → result ≡ find (opened_of self.now.windows) card.0 device.0 }
     {
@@ -66,7 +69,8 @@ impl WindowTable {
             .reach(card, page)
     }
 
-    // A free window takes the mapping, if there is one.
+    // A free window takes the mapping, if there is one. It is found by its place, here and below: once a window that `iter_mut` found
+    // is given back, a proof knows no window of the table.
     pub fn open(&mut self, mapping: Mapping)
         ensures opens { length (opened_of self.old.windows) < 8 → ((n : Opened) → In n (opened_of self.old.windows) → key n ≢ key mapping) → opened_of self.new.windows ≡ insert mapping (opened_of self.old.windows) }
         ensures one { OneChanged self.old.windows self.new.windows }

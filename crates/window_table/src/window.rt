@@ -68,7 +68,7 @@ impl Window {
             .is_some_and(|mapping| is_held_at(&mapping, address))
     }
 
-    // The pages of the card that the window takes.
+    // The pages of the card that the window takes. A range of none and no `Option`: the chooser goes through a lent list of ranges, in fixed memory.
     pub fn pages(&self, card: Card) -> Range<DevicePage>
         ensures { result ≡ pages_in card.0 self.now }
     {

@@ -18,6 +18,14 @@ use Rattle.meaning.proofs.Own.{own_in, own_unmap, own_sync}
 use Rattle.mapper.specs.Tasks.{Task, opens, closes, turns}
 use Rattle.mapper.specs.Called.{here, seen, Called}
 use Rattle.mapper.proofs.Calling.{refused, passed}
+use Rattle.units.specs.Buffers.{span}
+use Rattle.chooser.specs.declared.gap.Range.{Range}
+use Rattle.units.specs.declared.number.DevicePage.{DevicePage}
+use Rattle.chooser.specs.Finding.{choice}
+use Rattle.meaning.specs.Worlds.{last_of}
+use Rattle.pages.specs.Pages.{page_number, page_for}
+use Rattle.window_table.specs.Slots.{all_pages}
+use Rattle.window_table.proofs.Laws.{same_page}
 use Rattle.pages.specs.Lawful.{lawful}
 use Rattle.pages.proofs.Facts.{lawful_facts}
 use Rattle.window_table.specs.Choosing.{setup_of, window_choice}
@@ -41,6 +49,10 @@ Done w v x c a = Called means w v x x c a
 
 pub refused_call : (w : Windows) (x : List ℕ) (c : Call) (f : Fault) → verdict (here means w x) (open_in w) c ≡ errs f → Done w w x c (fails f)
 refused_call w x c f e = refused means w x c f e
+
+pub refused_chosen : (w : Windows) (x : List ℕ) (r : Request) (f : Fault) → ((k : Verdict) → admitted (here means w x) r k ≡ k) → window_choice (setup_in w) (open_in w) r ≡ Err f → Done w w x (map r) (fails f)
+unfolding verdict
+refused_chosen w x r f e h = refused_call w x (map r) f (e _ ∙ ap chosen h)
 
 -- memory that stays, since each buffer lands at its own address
 stays_found : (w : Windows) (c v : ℕ) (m : Mapping) (x : Bytes) (f : Mapping → Bytes) → find (open_in w) c v ≡ Some m → f m ≡ x → x ≡ on_found (find (open_in w) c v) x f
@@ -69,15 +81,27 @@ module _ (w v : Windows) (x : List ℕ) (same : v.geometry ≡ w.geometry) where
       (sym (ap (λ (z : Choice). on_choice z done (λ k. at k.device.0)) f)) (o ∙ sym (ap (λ (z : Choice). on_choice z (open_in w) (λ k. insert (new_mapping r k) (open_in w))) f))
       (sym (ap (λ (z : Choice). on_choice z (bytes_of x) (λ k. copy_in (λ g. false) (new_mapping r k) (bytes_of x))) f ∙ own_in (new_mapping r p) q (bytes_of x))) l
 
+-- the chooser over the windows' pages is the choice over the open mappings
+pub page_is : (w : Windows) (r : Request) (used : List (Range DevicePage)) (n : ℕ) → 0 < r.buffer.length → used ≡ all_pages r.card.0 w.table.windows → n ≡ span r.buffer.address r.buffer.length
+    → page_for (setup_of w.geometry) (opened_of w.table.windows) r ≡ choice page_number 1 (last_of (setup_of w.geometry) r.card.0) used n
+page_is w r used n some e f =
+    sym (same_page (setup_of w.geometry) w.table.windows r some)
+    ∙ ap (λ (u : List (Range DevicePage)). choice page_number 1 (last_of (setup_of w.geometry) r.card.0) u (span r.buffer.address r.buffer.length)) (sym e)
+    ∙ ap (λ (k : ℕ). choice page_number 1 (last_of (setup_of w.geometry) r.card.0) used k) (sym f)
+
+-- what a request that was let pass asks for
+pub asked : (w : Windows) (x : List ℕ) (r : Request) → ((k : Verdict) → admitted (here means w x) r k ≡ k) → (r.card.0 < w.geometry.cards) × (0 < r.buffer.length)
+asked w x r e = let a = admitted_facts (here means w x) r fine (e fine) in (a.card, a.some)
+
 -- Would ---------------------------------------------------------------------------------------------------
 
 module _ (w : Windows) (x : List ℕ) (r : Request) where
   abbrev said_so : Verdict → Answer
   said_so k = answered k (said (here means w x) (seen (open_in w) x) (map r))
 
-  pub would_refuse : (f : Fault) → ((k : Verdict) → admitted (here means w x) r k ≡ errs f) → fails f ≡ answer (here means w x) (seen (open_in w) x) (map r)
+  pub would_refuse : (f : Fault) → verdict (here means w x) (open_in w) (map r) ≡ errs f → fails f ≡ answer (here means w x) (seen (open_in w) x) (map r)
   unfolding verdict
-  would_refuse f e = sym (ap said_so (e _))
+  would_refuse f e = sym (ap said_so e)
 
   pub would_fail : (f : Fault) → ((k : Verdict) → admitted (here means w x) r k ≡ k) → window_choice (setup_in w) (open_in w) r ≡ Err f
       → fails f ≡ answer (here means w x) (seen (open_in w) x) (map r)

@@ -1,5 +1,4 @@
 // What the windows are to all above them, and their laws.
-ghost use Rattle.std.specs.Prelude.{◌≡◌, Bool, true, false, List, []};
 ghost use Rattle.pages.specs.Lawful.{Possible};
 ghost use Rattle.window_table.specs.Choosing.{setup_of, window_kind};
 ghost use Rattle.window_table.specs.Left.{WindowsLeft};

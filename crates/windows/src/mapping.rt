@@ -1,15 +1,12 @@
 // The windows as a mapper.
-ghost use Rattle.std.specs.Prelude.{◌≡◌, Bool, true, false, List, []};
-ghost use Rattle.pages.specs.Lawful.{Possible};
-ghost use Rattle.window_table.specs.Choosing.{setup_of, window_kind};
-ghost use Rattle.window_table.specs.Left.{WindowsLeft};
-ghost use Rattle.window_table.specs.Slots.{opened_of, reach_in};
-ghost use Rattle.window_table.proofs.Laws.{window_kept, window_disjoint, window_reach, window_landing, window_room, window_refusals, window_bounds};
+ghost use Rattle.std.specs.Prelude.{false};
 
 use crate::windows::Windows;
 use mapper::{Mapper, judge};
 use meaning::new_mapping;
-use units::{Access, Card, DeviceAddress, DevicePage, Fault, Frame, Mapping, Request, Sync};
+use units::{
+    Access, Card, DeviceAddress, DevicePage, Fault, Frame, Mapping, Request, Sync, UnmapRequest,
+};
 
 impl Mapper for Windows {
     fn cards(&self) -> u8 {
@@ -36,12 +33,14 @@ impl Mapper for Windows {
         self.table.mapping_at(card, device)
     }
 
+    #[tactic(auto, using(crate::proofs::Calls::asked, crate::proofs::Calls::would_refuse, crate::proofs::Calls::would_fail, crate::proofs::Calls::would_place), unfolding(meaning::specs::Checks::verdict))]
     fn would(&self, memory: &[u8], request: Request) -> Result<DeviceAddress, Fault> {
         self.admit(memory, request)?;
         let placement = self.place(request)?;
         Ok(placement.device)
     }
 
+    #[tactic(auto, using(crate::proofs::Calls::asked, crate::proofs::Calls::refused_call, crate::proofs::Calls::refused_chosen), unfolding(meaning::specs::Checks::verdict))]
     fn map(&mut self, memory: &mut [u8], request: Request) -> Result<DeviceAddress, Fault> {
         self.admit(memory, request)?;
         let placement = self.place(request)?;
@@ -49,19 +48,14 @@ impl Mapper for Windows {
         Ok(placement.device)
     }
 
-    fn unmap(
-        &mut self,
-        memory: &mut [u8],
-        card: Card,
-        direction: u8,
-        device: DeviceAddress,
-        length: u32,
-    ) -> Result<(), Fault> {
-        self.closing(memory, card, direction, device, length)?;
-        self.table.close(card, device);
+    #[tactic(auto, using(crate::proofs::Calls::refused_call, pages::proofs::Facts::lawful_remove), unfolding(meaning::specs::Checks::verdict))]
+    fn unmap(&mut self, memory: &mut [u8], request: UnmapRequest) -> Result<(), Fault> {
+        self.closing(memory, request)?;
+        self.table.close(request.card, request.device);
         Ok(())
     }
 
+    #[tactic(auto, using(crate::proofs::Calls::refused_call, pages::proofs::Facts::lawful_turn), unfolding(meaning::specs::Checks::verdict))]
     fn sync(
         &mut self,
         memory: &mut [u8],

@@ -1,5 +1,5 @@
 // The windows with the numbers of their set-up.
-ghost use Rattle.std.specs.Prelude.{◌≡◌, ℕ, ◌<◌, Bool, true, List, []};
+ghost use Rattle.std.specs.Prelude.{◌≡◌, ◌<◌, true, List, []};
 ghost use Rattle.units.specs.declared.mapping.Mapping.{Mapping as Opened};
 ghost use Rattle.units.specs.declared.mapping.Request.{Request as RequestOf};
 ghost use Rattle.pages.specs.Lawful.{Ranged, lawful};
@@ -20,6 +20,7 @@ pub struct Windows {
 
 impl Windows {
     // Windows with nothing open; where a number is out of range, with no cards and no frames. `choosing` tells how requests will be placed.
+    #[tactic(auto, using(window_table::proofs::Laws::choice_words, window_table::proofs::Laws::granted_ranged, window_table::proofs::Laws::fresh), unfolding(window_table::specs::Slots::opened_of))]
     pub fn set_up(geometry: Geometry) -> Windows
         ensures numbers { result.geometry ≡ granted geometry }
         ensures refusal { told_by result.geometry ≡ setup_refusal geometry }
@@ -35,7 +36,8 @@ impl Windows {
         }
     }
 
-    // Why the set-up was refused: a number was out of range.
+    // Why the set-up was refused: a number was out of range. A refused set-up is a mapper all the same, with no cards and no frames,
+    // whose calls answer as any mapper's do; so `set_up` gives no `Result`.
     pub fn refusal(&self) -> Option<FaultKind>
         ensures { result ≡ told_by self.now.geometry }
     {
@@ -43,6 +45,7 @@ impl Windows {
     }
 
     // Where a request of a card would be put: the chooser's pages, and a window.
+    #[tactic(auto, using(crate::proofs::Calls::page_is, window_table::proofs::Laws::choice_full))]
     pub(crate) fn place(&self, request: Request) -> Result<Placement, Fault>
         requires card { request.card.0 < self.now.geometry.cards }
         requires some { 0 < request.buffer.length }

@@ -1,6 +1,7 @@
-use Rattle.std.proofs.Common.{rules, ◌≡◌, true, false, length, get_or, set, ap, ◌∙◌, arith}
+use Rattle.std.proofs.Common.{rules, ◌≡◌, length, get_or, set, sym, ap, ◌∙◌, arith}
 use borrow.Author.Tests.{tests}
-use Rattle.std.proofs.lemmas.Iterator.{YieldsList-from_slice, IsFirst-from_position}
+use Rattle.std.proofs.lemmas.Iterator.{YieldsList-from_slice}
+use Rattle.std.proofs.lemmas.Iterator.Search.{position_from_yields_List}
 use Rattle.window_table.specs.declared.window.Window.{Window}
 use Rattle.window_table.specs.Slots.{free_window, is_free, opened_of}
 use Rattle.window_table.proofs.Slots.{free_is, open_window, count_full}
@@ -11,13 +12,13 @@ pub returns-in-Some-clause-opens : goal.returns-in-Some-clause-opens
 returns-in-Some-clause-opens c =
     let ws = c.args.self.now.windows in
     let i = c.in-Some.i in
-    let h = found_place is_free ws c.position.result i c.in-Some.is (IsFirst-from_position _ _ c.position.result (λ w. is_free w ≡ true) (λ w. is_free w ≡ false) c.position.ensures.ran (YieldsList-from_slice ws cc) (λ x q k. search (rules, tests)) (λ x q k. search (rules, tests))) in
+    let h = found_place is_free ws i (sym c.in-Some.is ∙ position_from_yields_List is_free _ _ c.position.result c.position.ensures.ran (YieldsList-from_slice ws cc) (λ x b q k. search (rules, tests))) in
     λ room apart. ap (λ (z : Window). opened_of (set ws i z)) c.open.ensures ∙ open_window ws i c.args.mapping h.0 (free_is (get_or ws i free_window) h.1) apart
 
 pub returns-in_default-clause-opens : goal.returns-in_default-clause-opens
 returns-in_default-clause-opens c =
     let ws = c.args.self.now.windows in
-    let h = found_none is_free ws c.position.result c.in_default.is (IsFirst-from_position _ _ c.position.result (λ w. is_free w ≡ true) (λ w. is_free w ≡ false) c.position.ensures.ran (YieldsList-from_slice ws cc) (λ x q k. search (rules, tests)) (λ x q k. search (rules, tests))) in
+    let h = found_none is_free ws (sym c.in_default.is ∙ position_from_yields_List is_free _ _ c.position.result c.position.ensures.ran (YieldsList-from_slice ws cc) (λ x b q k. search (rules, tests))) in
     let l = count_full ws h in
     let e : length ws ≡ 8 = omega arith in
     λ room apart. absurd (omega arith)
