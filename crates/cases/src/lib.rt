@@ -21,6 +21,7 @@ mod tests {
         }
     }
 
+    // The direction is a number, as in a request.
     fn map(card: u8, direction: u8, address: u32, length: u32) -> Command<'static> {
         Command::Map(Request {
             card: Card(card),

@@ -42,7 +42,7 @@ pub struct Gap {
 }
 
 impl Gap {
-    // Whether this gap is taken before the other: the smaller, and of equal gaps the higher.
+    // Whether this gap is taken before the other: the smaller, and of equal gaps the higher. A comparison and no order of keys, as in the definition.
     pub(crate) fn is_preferred_to(self, other: Gap) -> bool
         ensures { result ≡ preferred self other }
     {

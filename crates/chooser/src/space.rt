@@ -35,7 +35,7 @@ impl<N: Number> Space<'_, N> {
     }
 
     // The run of free numbers from `start`, where `start` is free. That the highest number is below the top is said
-    // here, where it is read: the numbers that `choose` makes have to be below it.
+    // here, where it is read: the numbers that `choose` makes have to be below it. No `then(..)`: the facts of the test were lost before that call.
     fn gap_at(&self, start: u64) -> Option<Gap>
         ensures value { result ≡ gap_at N.Number.value (N.Number.value self.now.lo) (N.Number.value self.now.hi) self.now.used.now start }
         ensures top { N.Number.value self.now.hi < N.Number.top }

@@ -205,7 +205,7 @@ pub trait Mapper: Meaning {
         Ok(())
     }
 
-    // The memory address of the bytes that a card's access reaches, once all of its checks let it pass.
+    // The memory address of the bytes that a card's access reaches, once all of its checks let it pass; count and room as in `accessing`.
     fn target(
         &mut self,
         memory: &[u8],
@@ -263,7 +263,7 @@ pub trait Mapper: Meaning {
     }
 }
 
-// An access of 1 to 64 bytes, with room for them.
+// An access of 1 to 64 bytes, with room for them: more than there is room for is refused.
 pub fn check_access(count: usize, room: usize) -> Result<(), Fault>
     ensures { MatchResult result (λ _. (nat_lt 0 count && (nat_le count 64 && nat_le count room)) ≡ true)
         (λ f. ((nat_lt 0 count && (nat_le count 64 && nat_le count room)) ≡ false) × (f ≡ record { kind = WrongLength; layer = 0; place = count })) }

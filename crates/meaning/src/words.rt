@@ -28,7 +28,7 @@ pub fn starts_at(mapping: &Mapping, card: Card, device: DeviceAddress) -> bool
     mapping.card == card && mapping.device == device
 }
 
-// The card's device page is one of the mapping's.
+// The card's device page is one of the mapping's. Comparisons and no range with `contains`: with that the proof did not close.
 pub fn is_on_page(mapping: &Mapping, card: Card, page: DevicePage) -> bool
     ensures test { result ≡ on_page card.0 page.0 mapping.now }
     ensures near { result ≡ true → (mapping.now.device.0 / 4096 ≤ page.0) × (page.0 - mapping.now.device.0 / 4096 < 1048577) }

@@ -9,7 +9,7 @@ use engine::Engine;
 use mapper::Mapper;
 use units::Fault;
 
-// Makes one call; only a read touches the answer buffer. A match, since calls are data: they stand in lists, and a run is told of the whole list.
+// Makes one call; only a read touches the answer buffer. Memory is lent beside the engine, as in `Mapper`, here and below. A match, since calls are data: they stand in lists, and a run is told of the whole list.
 pub fn make<M: Mapper>(
     engine: &mut Engine<M>,
     memory: &mut [u8],

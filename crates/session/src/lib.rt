@@ -29,7 +29,7 @@ pub fn bare_windows() -> Engine<Windows>
     }))
 }
 
-// Plays one record: answers and leaves what the definition of its call says.
+// Plays one record: answers and leaves what the definition of its call says. Memory is lent beside the engine, as in `Mapper`.
 pub fn play(
     engine: &mut Engine<Windows>,
     memory: &mut [u8],

@@ -13,6 +13,7 @@ pub struct Window {
     pub mapping: Option<Mapping>,
 }
 
+// Card and device address, or page, are two parameters, as in `Mapper`.
 impl Window {
     // The window takes the mapping.
     pub fn open(&mut self, mapping: Mapping)
