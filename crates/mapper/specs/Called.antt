@@ -1,8 +1,9 @@
 -- What a call on a mapper answers and leaves, over the meaning of any mapper.
 use Rattle.mapper.specs.declared.laws.Meaning.{Ghosts as Meaning}
-use Rattle.std.specs.Prelude.{◌≡◌, ℕ, ◌+◌, ◌*◌, ◌/◌, ◌%◌, ◌≤◌, List, length, None, Ok, Err, Option, Result, MatchResult}
+use Rattle.std.specs.Prelude.{◌≡◌, ℕ, ◌+◌, ◌*◌, ◌/◌, ◌%◌, ◌≤◌, Bool, true, false, List, length, None, Ok, Err, Option, Result, MatchResult}
 use Rattle.units.specs.declared.direction.Access.{Access}
 use Rattle.units.specs.declared.fault.Fault.{Fault}
+use Rattle.units.specs.declared.fault.FaultKind.{FaultKind}
 use Rattle.units.specs.declared.mapping.Mapping.{Mapping}
 use Rattle.units.specs.declared.mapping.Reach.{Reach}
 use Rattle.units.specs.declared.number.Frame.{Frame}
@@ -36,6 +37,11 @@ pub record Read {M : Type 0} (I : Meaning M)
     (m m' : M) (x : List ℕ) (t t' : List ℕ) (c : Call) (a : Answer) : Type 0 where
   pub called : Called I m m' x x c a
   pub buffer : bytes_of t' ≡ buffer_after a t
+
+-- one check by itself: its test holds, or the refusal of kind k at place p
+abbrev pub Checked : Bool → FaultKind → ℕ → Result (Unit {0}) Fault → Type 0
+Checked test k p (Ok u) = test ≡ true
+Checked test k p (Err f) = (test ≡ false) × (f ≡ record { kind = k; layer = 0; place = p })
 
 -- the frame that a reach lets a card access, or the block at level l
 abbrev pub Judged : Option Reach → ℕ → Access → Result Frame Fault → Type 0

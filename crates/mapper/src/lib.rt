@@ -1,14 +1,14 @@
 // The mapper: its meaning, its laws, and the calls, with the checks that every mapper shares.
 #![tactic(auto)]
 
-ghost use Rattle.std.specs.Prelude.{◌≡◌, ◌+◌, ◌*◌, ◌/◌, ◌%◌, ◌^◌, ◌<◌, Option, length, true, false, nat_lt, nat_le, MatchResult, ◌==◌, ◌&&◌};
+ghost use Rattle.std.specs.Prelude.{◌≡◌, ◌+◌, ◌*◌, ◌/◌, ◌%◌, ◌^◌, ◌<◌, Option, length, nat_lt, nat_le, ◌==◌, ◌&&◌};
 ghost use Rattle.meaning.specs.Mappings.{find, held};
 ghost use Rattle.meaning.specs.Calls.{map, unmap, sync, card_read, card_write};
 ghost use Rattle.meaning.specs.Checks.{Verdict, admitted, unmap_checks, sync_checks, card_checks, none_reserved, none_held};
 ghost use Rattle.meaning.specs.Effects.{answer};
 ghost use Rattle.meaning.specs.Told.{tells_at, tells_done, tells_bytes, passes, lowest, Names};
 ghost use Rattle.units.specs.declared.fault.FaultKind.TheVariants.{NoCard, WrongLength, OutsideMemory, ReservedFrame, WrongHolder};
-ghost use Rattle.mapper.specs.Called.{here, seen, Called, Read, Translated, Targeted, Judged};
+ghost use Rattle.mapper.specs.Called.{here, seen, Checked, Called, Read, Translated, Targeted, Judged};
 
 mod laws;
 
@@ -74,8 +74,7 @@ pub trait Mapper: Meaning {
 
     // The card is one of the set-up's.
     fn check_card(&self, card: Card) -> Result<(), Fault>
-        ensures { MatchResult result (λ _. nat_lt card.0 (Self.setup self.now).cards ≡ true)
-            (λ f. (nat_lt card.0 (Self.setup self.now).cards ≡ false) × (f ≡ record { kind = NoCard; layer = 0; place = card.0 })) }
+        ensures { Checked (nat_lt card.0 (Self.setup self.now).cards) NoCard card.0 result }
     {
         if card.0 < self.cards() {
             Ok(())
@@ -86,8 +85,7 @@ pub trait Mapper: Meaning {
 
     // The memory has the size of the set-up.
     fn check_memory(&self, memory: &[u8]) -> Result<(), Fault>
-        ensures { MatchResult result (λ _. (length memory.now == (Self.setup self.now).frames * 4096) ≡ true)
-            (λ f. ((length memory.now == (Self.setup self.now).frames * 4096) ≡ false) × (f ≡ record { kind = OutsideMemory; layer = 0; place = (Self.setup self.now).frames * 4096 })) }
+        ensures { Checked (length memory.now == (Self.setup self.now).frames * 4096) OutsideMemory ((Self.setup self.now).frames * 4096) result }
     {
         let end = self.frames() as u64 * 4096;
         if memory.len() as u64 == end {
@@ -99,10 +97,7 @@ pub trait Mapper: Meaning {
 
     // The memory has the size of the set-up, and the buffer lies in it.
     fn check_inside(&self, memory: &[u8], buffer: Buffer) -> Result<(), Fault>
-        ensures { MatchResult result
-            (λ _. (length memory.now == (Self.setup self.now).frames * 4096 && nat_le (buffer.address + buffer.length) ((Self.setup self.now).frames * 4096)) ≡ true)
-            (λ f. ((length memory.now == (Self.setup self.now).frames * 4096 && nat_le (buffer.address + buffer.length) ((Self.setup self.now).frames * 4096)) ≡ false)
-            × (f ≡ record { kind = OutsideMemory; layer = 0; place = (Self.setup self.now).frames * 4096 })) }
+        ensures { let end = (Self.setup self.now).frames * 4096 in Checked (length memory.now == end && nat_le (buffer.address + buffer.length) end) OutsideMemory end result }
     {
         let end = self.frames() as u64 * 4096;
         if memory.len() as u64 == end && buffer.end() <= end {
@@ -265,8 +260,7 @@ pub trait Mapper: Meaning {
 
 // An access of 1 to 64 bytes, with room for them: more than there is room for is refused.
 pub fn check_access(count: usize, room: usize) -> Result<(), Fault>
-    ensures { MatchResult result (λ _. (nat_lt 0 count && (nat_le count 64 && nat_le count room)) ≡ true)
-        (λ f. ((nat_lt 0 count && (nat_le count 64 && nat_le count room)) ≡ false) × (f ≡ record { kind = WrongLength; layer = 0; place = count })) }
+    ensures { Checked (nat_lt 0 count && (nat_le count 64 && nat_le count room)) WrongLength count result }
 {
     if count == 0 || count > 64 || count > room {
         return Err(FaultKind::WrongLength.at(count as u64));

@@ -102,6 +102,14 @@ pub count_full : (ws : List Window) → ((k : ℕ) → k < length ws → is_free
 count_full [] h = count_none
 count_full (x ∷ xs) h = count_held x xs (h 0 (omega arith)) ∙ ap suc (count_full xs (λ k l. h (suc k) (omega arith)))
 
+pub count_room : (ws : List Window) (i : ℕ) → i < length ws → is_free (get_or ws i free_window) ≡ true → length (opened_of ws) < length ws
+count_room [] i l e = absurd (omega arith)
+count_room (x ∷ xs) zero l e = let z = count_free x xs e in let m = count_most xs in omega arith
+count_room (x ∷ xs) (suc i) l e = let later = count_room xs i (omega arith) e in elim (cases_Bool (is_free x)) [
+  | inl f ↦ (let z = count_free x xs f in omega arith)
+  | inr f ↦ (let z = count_held x xs f in omega arith)
+]
+
 -- Changes of one window -----------------------------------------------------------------------------------
 
 pub open_window : (ws : List Window) (i : ℕ) (m : Mapping) → i < length ws → (get_or ws i free_window).mapping ≡ None → ((n : Mapping) → In n (opened_of ws) → key n ≡ key m → ⊥)

@@ -1,5 +1,5 @@
 // The fixed table of windows, one lent at a time to open, turn or close it.
-ghost use Rattle.std.specs.Prelude.{◌≡◌, ◌<◌, true, length, ◌≢◌, nat_le};
+ghost use Rattle.std.specs.Prelude.{◌≡◌, ◌<◌, ◌≤◌, true, length, ◌≢◌, nat_le};
 ghost use Rattle.units.specs.declared.mapping.Mapping.{Mapping as Opened};
 ghost use Rattle.meaning.specs.Mappings.{In, key, insert, remove, turn, find, held, reach_of};
 ghost use Rattle.meaning.specs.Worlds.{Setup};
@@ -73,6 +73,7 @@ impl WindowTable {
     // is given back, a proof knows no window of the table.
     pub fn open(&mut self, mapping: Mapping)
         ensures opens { length (opened_of self.old.windows) < 8 → ((n : Opened) → In n (opened_of self.old.windows) → key n ≢ key mapping) → opened_of self.new.windows ≡ insert mapping (opened_of self.old.windows) }
+        ensures full { 8 ≤ length (opened_of self.old.windows) → self.new ≡ self.old }
         ensures one { OneChanged self.old.windows self.new.windows }
     {
         if let Some(i) = self.windows.iter().position(|window| window.is_free()) {

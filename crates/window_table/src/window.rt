@@ -31,7 +31,8 @@ impl Window {
 
     // The window's mapping passes to another holder.
     pub fn turn(&mut self, holder: Holder)
-        ensures { (m : Opened) → self.old.mapping ≡ Some m → self.new ≡ holding (turned holder m) }
+        ensures held { (m : Opened) → self.old.mapping ≡ Some m → self.new ≡ holding (turned holder m) }
+        ensures free { self.old.mapping ≡ None → self.new ≡ self.old }
     {
         if let Some(mapping) = &mut self.mapping {
             mapping.holder = holder;

@@ -12,7 +12,7 @@ returns-in-Some-clause-turns c =
     let ws = c.args.self.now.windows in
     let such = has (starts c.args.card.0 c.args.device.0) in
     let h = found_place such ws c.in-Some.i (sym c.in-Some.is ∙ position_from_yields_List such _ _ c.position.result c.position.ensures.ran (YieldsList-from_slice ws cc) (λ x b q k. search (rules, tests))) in
-    λ S e. turned_at S ws e c.in-Some.i h.0 c.args.holder c.args.card.0 c.args.device.0 c.turn.new.self c.turn.ensures h.1
+    λ S e. turned_at S ws e c.in-Some.i h.0 c.args.holder c.args.card.0 c.args.device.0 c.turn.new.self c.turn.ensures.held h.1
 
 pub returns-in_default-clause-turns : goal.returns-in_default-clause-turns
 returns-in_default-clause-turns c =
