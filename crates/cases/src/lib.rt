@@ -5,8 +5,8 @@
 mod tests {
     use engine::Engine;
     use mapper::Mapper;
+    use rack::bare_windows;
     use runs::{Command, Reply, make};
-    use session::bare_windows;
     use units::{
         Block, Buffer, Card, DeviceAddress, DevicePage, Fault, FaultKind, Geometry, Report, Request,
     };

@@ -1,5 +1,6 @@
 -- Which device pages a mapping takes: the chooser's, among those that the card's open mappings leave free.
-use Rattle.std.specs.Prelude.{◌≡◌, ℕ, ◌+◌, ◌*◌, ◌%◌, cond, List, [], ◌∷◌, Some, Ok, Option, ◌==◌}
+use Rattle.std.specs.Prelude.{◌≡◌, ℕ, ◌+◌, ◌*◌, ◌%◌, cond, List, [], ◌∷◌, Some, None, Ok, Err, Option, ◌==◌}
+use Rattle.units.specs.declared.fault.FaultKind.TheVariants.{NoPages}
 use Rattle.units.specs.declared.mapping.Mapping.{Mapping}
 use Rattle.units.specs.declared.mapping.Placement.{Placement}
 use Rattle.units.specs.declared.mapping.Request.{Request}
@@ -7,6 +8,7 @@ use Rattle.units.specs.declared.number.DevicePage.{DevicePage}
 use Rattle.units.specs.Buffers.{span}
 use Rattle.chooser.specs.declared.gap.Range.{Range}
 use Rattle.chooser.specs.Finding.{choice}
+use Rattle.chooser.specs.Gaps.{Chosen, NoRoom}
 use Rattle.meaning.specs.Mappings.{first_page, page_count}
 use Rattle.meaning.specs.Worlds.{Setup, last_of, Choice}
 
@@ -32,3 +34,19 @@ placed_at r p = record { device = record { 0 = p * 4096 + r.buffer.address % 409
 -- a choice that accepts only pages of the chooser, each buffer at its own address
 abbrev pub TakesPages : (Setup → List Mapping → Request → Choice) → Type 0
 TakesPages K = (S : Setup) (o : List Mapping) (r : Request) (q : Placement) → K S o r ≡ Ok q → (p : ℕ) × (page_for S o r ≡ Some p) × (q ≡ placed_at r p)
+
+-- no gap of device pages holds n
+abbrev pub no_pages_for : ℕ → Choice
+no_pages_for n = Err (record { kind = NoPages; layer = 0; place = n })
+
+abbrev pub on_page_found : Option ℕ → ℕ → (ℕ → Choice) → Choice
+on_page_found None n f = no_pages_for n
+on_page_found (Some p) n f = f p
+
+-- the highest n free pages of the best gap begin at q
+abbrev pub BestPages : Setup → List Mapping → Request → ℕ → Type 0
+BestPages S o r q = Chosen page_number 1 (last_of S r.card.0) (used_pages o r.card.0) (span r.buffer.address r.buffer.length) q
+
+-- no gap of the card's device pages holds the span
+abbrev pub NoPagesLeft : Setup → List Mapping → Request → Type 0
+NoPagesLeft S o r = NoRoom page_number 1 (last_of S r.card.0) (used_pages o r.card.0) (span r.buffer.address r.buffer.length)

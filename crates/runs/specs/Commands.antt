@@ -1,5 +1,5 @@
 -- The calls and answers that the code's values stand for, and a run of steps.
-use Rattle.std.specs.Prelude.{◌≡◌, ℕ, List, [], ◌∷◌, Ok, Err, Result, vec_items}
+use Rattle.std.specs.Prelude.{◌≡◌, ℕ, List, [], ◌∷◌, length, Ok, Err, Result, vec_items}
 use Rattle.units.specs.declared.fault.Fault.{Fault}
 use Rattle.meaning.specs.Memory.{bytes_of}
 use Rattle.meaning.specs.Worlds.{World}
@@ -7,6 +7,7 @@ use Rattle.meaning.specs.Calls.{Call, map, unmap, sync, cpu_read, cpu_write, car
 use Rattle.meaning.specs.Effects.{State, buffer_after}
 use Rattle.meaning.specs.Runs.{answers, final}
 use Rattle.mapper.specs.declared.laws.Meaning.{Ghosts as Meaning}
+use Rattle.mapper.specs.Tasks.{task_of, Left}
 use Rattle.engine.specs.declared.Engine.{Engine}
 use Rattle.engine.specs.Made.{Made}
 use Rattle.runs.specs.declared.command.Command.{Command}
@@ -53,15 +54,26 @@ unfoldable pub answers_of : List Step → List Answer
 answers_of [] = []
 answers_of (s ∷ l) = answer_of s ∷ answers_of l
 
--- each step's answer buffer is what its answer leaves there
+unfoldable pub commands_of : List Step → List Command
+commands_of [] = []
+commands_of (s ∷ l) = s.command ∷ commands_of l
+
+-- each step's answer buffer is what its answer leaves there, and as long as it was
 unfoldable pub Buffered : List Step → List Step → Type 0
 Buffered [] [] = Unit {0}
 Buffered [] (t ∷ k) = ⊥
 Buffered (s ∷ l) [] = ⊥
-Buffered (s ∷ l) (t ∷ k) = (bytes_of (vec_items t.out) ≡ buffer_after (answer_of t) (vec_items s.out)) × Buffered l k
+Buffered (s ∷ l) (t ∷ k) = (bytes_of (vec_items t.out) ≡ buffer_after (answer_of t) (vec_items s.out)) × (length (vec_items t.out) ≡ length (vec_items s.out)) × Buffered l k
 
 -- the steps `before` were asked and the steps `past` are what they became, from state s to state t
 pub record Ran (W : World) (s t : State) (before past : List Step) : Type 0 where
+  pub asked : commands_of past ≡ commands_of before
   pub answered : answers_of past ≡ answers W s (calls_of before)
   pub left : t ≡ final W s (calls_of before)
   pub buffered : Buffered before past
+
+-- the mapper m became m' step by step, and each step left of it what its call and answer leave
+pub data LeftInTurn {M : Type 0} (I : Meaning M) : M → M → List Step → List Step → Type 0 where
+  none : (m : M) → LeftInTurn I m m [] []
+  next : {m m' m'' : M} {x y : Step} {before past : List Step} → Left I.leaves m m' (task_of (call_of x)) (answer_of y) → LeftInTurn I m' m'' before past
+      → LeftInTurn I m m'' (x ∷ before) (y ∷ past)

@@ -1,8 +1,8 @@
 // Calls made one after the other, each as the definition of the calls says.
-ghost use Rattle.std.specs.Prelude.{◌≡◌};
+ghost use Rattle.std.specs.Prelude.{◌≡◌, length};
 ghost use Rattle.mapper.specs.Called.{here};
 ghost use Rattle.engine.specs.Made.{state};
-ghost use Rattle.runs.specs.Commands.{meant, spoken, MadeOne, call_of, answer_of, Ran};
+ghost use Rattle.runs.specs.Commands.{meant, spoken, MadeOne, call_of, answer_of, Ran, LeftInTurn};
 
 use crate::command::{Command, Reply, Step};
 use engine::Engine;
@@ -52,15 +52,18 @@ pub fn make<M: Mapper>(
 pub fn take_step<M: Mapper>(engine: &mut Engine<M>, memory: &mut [u8], step: &mut Step<'_>)
     ensures made { MadeOne M.Meaning engine.old engine.new memory.old memory.new step.old.out.items step.new.out.items (call_of step.old) (answer_of step.new) }
     ensures asked { step.new.command ≡ step.old.command }
+    ensures size { length step.new.out.items ≡ length step.old.out.items }
 {
     let reply = make(engine, memory, step.command, step.out.as_mut_slice());
     step.reply = reply;
 }
 
-// Makes the steps' calls one after the other: answers, answer buffers and all that is left are those of the whole list.
+// Makes the steps' calls one after the other: answers, answer buffers and all that is left are those of the whole list, and of the
+// mapper's own parts each call leaves what it leaves by itself.
 pub fn run<M: Mapper>(engine: &mut Engine<M>, memory: &mut [u8], steps: &mut [Step<'_>])
     ensures fixed { M.setup engine.new.mapper ≡ M.setup engine.old.mapper }
     ensures ran { Ran (here M.Meaning engine.old.mapper memory.old) (state (M.opened engine.old.mapper) memory.old engine.old.reports) (state (M.opened engine.new.mapper) memory.new engine.new.reports) steps.old steps.new }
+    ensures left { LeftInTurn M.Meaning engine.old.mapper engine.new.mapper steps.old steps.new }
 {
     for step in steps.iter_mut() {
         take_step(engine, memory, step);

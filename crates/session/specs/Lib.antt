@@ -1,1 +1,1 @@
-pub mod Playing
+pub mod Asking

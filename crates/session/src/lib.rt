@@ -1,42 +1,60 @@
-// A script's records played over an engine with windows.
+// A script as the steps of a run.
 #![tactic(auto)]
 
-ghost use Rattle.std.specs.Prelude.{◌≡◌, []};
-ghost use Rattle.engine.specs.Made.{no_reports};
-ghost use Rattle.runs.specs.Commands.{spoken, MadeOne};
-ghost use Rattle.runs.specs.Scripted.{call_for};
+ghost use Rattle.std.specs.Prelude.{◌≡◌, IfOk, replicate};
 ghost use Rattle.script.specs.Items.{meant as item_of};
-ghost use Rattle.window_table.specs.Slots.{opened_of};
-ghost use Rattle.session.specs.Playing.{last_pages};
+ghost use Rattle.script.specs.Scripts.{read_all};
+ghost use Rattle.runs.specs.Commands.{call_of};
+ghost use Rattle.runs.specs.Scripted.{call_for};
+ghost use Rattle.session.specs.Asking.{Asked};
 
-use engine::Engine;
-use mapper::Meaning;
-use runs::{Reply, make};
-use script::Record;
-use units::{DevicePage, Fault, Geometry};
-use windows::Windows;
+use runs::{Reply, Step};
+use script::{Reader, Record};
+use std::alloc::{AllocError, Global};
+use units::Fault;
 
-// An engine over bare windows: 2 cards with last page 1,048,575 and 8 frames, nothing open and nothing counted.
-pub fn bare_windows() -> Engine<Windows>
-    ensures numbers { result.mapper.geometry ≡ record { cards = 2; lasts = last_pages; frames = 8 } }
-    ensures empty { opened_of result.mapper.table.windows ≡ [] }
-    ensures counted { result.reports ≡ no_reports }
-{
-    Engine::over(Windows::set_up(Geometry {
-        cards: 2,
-        lasts: [DevicePage(1_048_575); 4],
-        frames: 8,
-    }))
+// What a script asks for: its records as steps, in their order, and the refusal that ends it, if any.
+#[derive(Drop)]
+pub struct Session<'s> {
+    pub steps: Vec<Step<'s>>,
+    pub refusal: Option<Fault>,
 }
 
-// Plays one record: answers and leaves what the definition of its call says. Memory is lent beside the engine, as in `Mapper`.
-pub fn play(
-    engine: &mut Engine<Windows>,
-    memory: &mut [u8],
-    asked: Record<'_>,
-    out: &mut [u8],
-) -> Result<Reply, Fault>
-    ensures { MadeOne ⟦<Windows as Meaning>⟧ engine.old engine.new memory.old memory.new out.old out.new (call_for (item_of asked.entry) out.old) (spoken result out.new) }
+impl<'s> Session<'s> {
+    // Reads a whole script, to its end or its first error.
+    pub fn read(alloc: Global, script: &'s [u8]) -> Result<Session<'s>, AllocError>
+        ensures { IfOk result (λ s. Asked (read_all script.now) s) }
+    {
+        let mut reader = Reader::new(script);
+        let mut steps = Vec::new(alloc);
+        loop {
+            match reader.next() {
+                Ok(Some(asked)) => steps.push(step_for(alloc, asked)?)?,
+                Ok(None) => {
+                    return Ok(Session {
+                        steps,
+                        refusal: None,
+                    });
+                }
+                Err(fault) => {
+                    return Ok(Session {
+                        steps,
+                        refusal: Some(fault),
+                    });
+                }
+            }
+        }
+    }
+}
+
+// The step of a record, with an answer buffer of 64 bytes, which is what a read takes at most.
+fn step_for(alloc: Global, asked: Record<'_>) -> Result<Step<'_>, AllocError>
+    ensures { IfOk result (λ s. call_of s ≡ call_for (item_of asked.entry) (replicate 64 0)) }
 {
-    make(engine, memory, asked.into(), out)
+    let out = vec![in alloc; 0u8; 64]?;
+    Ok(Step {
+        command: asked.into(),
+        out,
+        reply: Ok(Reply::Done),
+    })
 }

@@ -1,6 +1,5 @@
 -- The window mapper keeps the laws.
-use Rattle.std.proofs.Common.{◌≡◌, ℕ, zero, suc, ◌^◌, ◌<◌, ◌≤◌, Bool, true, false, cond, ltb, leb, List, [], length, Some, None, Ok, Err, Option, sym, refl, ap, subst, inl, inr, arith}
-use Rattle.std.proofs.lemmas.Bool.Decides.{nat_tests}
+use Rattle.std.proofs.Common.{◌≡◌, ℕ, ◌<◌, Bool, true, false, cond, ltb, leb, List, [], length, Some, None, Ok, Err, Option, sym, refl, ap, subst, inl, inr, arith}
 use Rattle.std.proofs.lemmas.Bool.{leb-true, leb-false, lt-ltb, cases_Bool, cond-true}
 use Rattle.units.specs.declared.mapping.Mapping.{Mapping}
 use Rattle.units.specs.declared.mapping.Placement.{Placement}
@@ -9,10 +8,8 @@ use Rattle.units.specs.declared.number.Geometry.{Geometry}
 use Rattle.units.specs.Buffers.{span}
 use Rattle.units.specs.declared.fault.FaultKind.TheVariants.{NoPages, NoRecord, WrongSetup}
 use Rattle.units.specs.Faults.{is_choice_kind}
-use Rattle.units.specs.Geometry.{last_page, in_range}
-use Rattle.chooser.specs.Finding.{choice}
+use Rattle.units.specs.Geometry.{in_range}
 use Rattle.chooser.proofs.Answer.{choice_none, choice_some}
-use Rattle.chooser.proofs.Same.{any_order}
 use Rattle.meaning.specs.Mappings.{In, key, insert, reach_of}
 use Rattle.meaning.specs.Worlds.{Setup, last_of, world}
 use Rattle.meaning.specs.Laws.{DisjointPages, Landings, EmptyRoom, ChoiceRefusals, Bounds, Accepts}
@@ -21,24 +18,17 @@ use Rattle.meaning.specs.Effects.{new_mapping, opens_after}
 use Rattle.meaning.proofs.Unique.{one_on_page}
 use Rattle.meaning.proofs.Verdicts.{Admitted}
 use Rattle.pages.specs.Lawful.{Ranged, lawful, Possible, none_reserved}
-use Rattle.pages.specs.Pages.{page_number, used_pages, page_for, placed_at, TakesPages}
+use Rattle.pages.specs.Pages.{page_number, used_pages, page_for, placed_at, TakesPages, no_pages_for, on_page_found}
 use Rattle.pages.proofs.Laws.{disjoint, landed, bounds, kept}
+use Rattle.pages.proofs.Ranges.{range_facts}
 use Rattle.pages.proofs.Facts.{lawful_uninsert, key_apart}
 use Rattle.pages.proofs.Taking.{first_page_lem, grown}
-use Rattle.window_table.specs.declared.window.Window.{Window}
-use Rattle.window_table.specs.Choosing.{setup_of, granted, setup_refusal, told_by, no_pages_for, no_window, on_page_found, window_choice, window_kind, Chooses}
-use Rattle.window_table.specs.Slots.{opened_of, reach_in, all_pages}
-use Rattle.window_table.proofs.Slots.{reach_windows, pages_same, pages_back}
+use Rattle.slots.specs.declared.slot.Slot.{Slot}
+use Rattle.window_table.specs.Choosing.{setup_of, granted, setup_refusal, told_by, no_window, window_choice, window_kind, Chooses}
+use Rattle.slots.specs.Slots.{opened_of, reach_in}
+use Rattle.slots.proofs.Slots.{reach_slots}
 
 -- The choice ----------------------------------------------------------------------------------------------
-
--- window by window or mapping by mapping, the chooser gives the same page
-pub same_page : (S : Setup) (ws : List Window) (r : Request) → 0 < r.buffer.length
-    → choice page_number 1 (last_of S r.card.0) (all_pages r.card.0 ws) (span r.buffer.address r.buffer.length) ≡ page_for S (opened_of ws) r
-same_page S ws r some =
-    let pos : 0 < span r.buffer.address r.buffer.length = omega arith in
-    any_order page_number 1 (last_of S r.card.0) (span r.buffer.address r.buffer.length) (all_pages r.card.0 ws) (used_pages (opened_of ws) r.card.0) pos
-    (λ x. pages_same r.card.0 x ws) (λ x. pages_back r.card.0 x ws)
 
 pub choice_full : (S : Setup) (o : List Mapping) (r : Request) → page_for S o r ≡ None
     → no_pages_for (span r.buffer.address r.buffer.length) ≡ window_choice S o r
@@ -111,8 +101,8 @@ window_kept = kept window_kind takes_pages
 pub window_disjoint : (S : Setup) (o : List Mapping) → Possible S o → DisjointPages S o
 window_disjoint S o h = disjoint S o h.1
 
-pub window_reach : (S : Setup) (ws : List Window) → lawful S (opened_of ws) ≡ true → (c p : ℕ) → reach_in ws c p ≡ reach_of (opened_of ws) c p
-window_reach S ws e c p = reach_windows c p ws (one_on_page S (opened_of ws) (disjoint S (opened_of ws) e) c p)
+pub window_reach : (S : Setup) (ws : List Slot) → lawful S (opened_of ws) ≡ true → (c p : ℕ) → reach_in ws c p ≡ reach_of (opened_of ws) c p
+window_reach S ws e c p = reach_slots c p ws (one_on_page S (opened_of ws) (disjoint S (opened_of ws) e) c p)
 
 pub window_landing : (S : Setup) (o : List Mapping) → Possible S o → Landings (none_reserved S) o
 window_landing = landed
@@ -135,28 +125,18 @@ window_refusals S o h r f e = go (page_for S o r) (leb 8 (length o)) e
 
 -- Set-up --------------------------------------------------------------------------------------------------
 
-pub range_facts : (g : Geometry) → in_range g ≡ true → Ranged (setup_of g) × (0 < g.cards)
-range_facts g e = ((grind (arith, nat_tests), grind (arith, nat_tests), each), grind (arith, nat_tests))
-  where
-    each : (c : ℕ) → c < g.cards → (1 ≤ last_page g c) × (last_page g c < 2 ^ 36)
-    each zero h = (grind (arith, nat_tests), grind (arith, nat_tests))
-    each (suc zero) h = (grind (arith, nat_tests), grind (arith, nat_tests))
-    each (suc (suc zero)) h = (grind (arith, nat_tests), grind (arith, nat_tests))
-    each (suc (suc (suc zero))) h = (grind (arith, nat_tests), grind (arith, nat_tests))
-    each (suc (suc (suc (suc c)))) h = let four : g.cards ≤ 4 = grind (arith, nat_tests) in absurd (omega arith)
-
 pub granted_ranged : (g : Geometry) → Ranged (setup_of (granted g))
 granted_ranged g = go (in_range g) refl
   where
     go : (b : Bool) → in_range g ≡ b → Ranged (setup_of (cond b g (record { cards = 0; lasts = g.lasts; frames = 0 })))
-    go true e = (range_facts g e).0
+    go true e = (range_facts g [] e).0
     go false e = (omega arith, omega arith, λ c h. absurd (omega arith))
 
 pub granted_told : (g : Geometry) → told_by (granted g) ≡ setup_refusal g
 granted_told g = go (in_range g) refl
   where
     go : (b : Bool) → in_range g ≡ b → told_by (cond b g (record { cards = 0; lasts = g.lasts; frames = 0 })) ≡ cond b None (Some WrongSetup)
-    go true e = cond-true (ltb 0 g.cards) None (Some WrongSetup) (lt-ltb 0 g.cards (range_facts g e).1)
+    go true e = cond-true (ltb 0 g.cards) None (Some WrongSetup) (lt-ltb 0 g.cards (range_facts g [] e).1)
     go false e = refl
 
 pub fresh : (S : Setup) → lawful S [] ≡ true

@@ -1,3 +1,1 @@
-pub mod Slots
-pub mod Looking
 pub mod Laws

@@ -1,16 +1,15 @@
 -- Set-up and choice of the window mapper.
 use Rattle.std.specs.Prelude.{◌≡◌, ℕ, ◌<◌, ◌≤◌, cond, ◌⊎◌, List, [], length, Some, None, Ok, Err, Option, nat_le, nat_lt}
 use Rattle.units.specs.declared.fault.FaultKind.{FaultKind}
-use Rattle.units.specs.declared.fault.FaultKind.TheVariants.{NoPages, NoRecord, WrongSetup}
+use Rattle.units.specs.declared.fault.FaultKind.TheVariants.{NoRecord, WrongSetup}
 use Rattle.units.specs.declared.mapping.Mapping.{Mapping}
 use Rattle.units.specs.declared.mapping.Request.{Request}
 use Rattle.units.specs.declared.number.Geometry.{Geometry}
 use Rattle.units.specs.Buffers.{span}
 use Rattle.units.specs.Geometry.{in_range}
-use Rattle.chooser.specs.Gaps.{Chosen, NoRoom}
-use Rattle.meaning.specs.Worlds.{Setup, last_of, Kind, Choice}
+use Rattle.meaning.specs.Worlds.{Setup, Kind, Choice}
 use Rattle.pages.specs.Lawful.{none_reserved}
-use Rattle.pages.specs.Pages.{page_number, used_pages, page_for, placed_at}
+use Rattle.pages.specs.Pages.{page_for, placed_at, no_pages_for, on_page_found, BestPages, NoPagesLeft}
 
 abbrev pub setup_of : Geometry → Setup
 setup_of g = record { cards = g.cards; lasts = g.lasts; frames = g.frames; fixed = [] }
@@ -27,29 +26,13 @@ setup_refusal g = cond (in_range g) None (Some WrongSetup)
 abbrev pub told_by : Geometry → Option FaultKind
 told_by g = cond (nat_lt 0 g.cards) None (Some WrongSetup)
 
--- no gap of device pages holds n
-abbrev pub no_pages_for : ℕ → Choice
-no_pages_for n = Err (record { kind = NoPages; layer = 0; place = n })
-
 -- all 8 windows are in use
 abbrev pub no_window : Choice
 no_window = Err (record { kind = NoRecord; layer = 0; place = 8 })
 
-abbrev pub on_page_found : Option ℕ → ℕ → (ℕ → Choice) → Choice
-on_page_found None n f = no_pages_for n
-on_page_found (Some p) n f = f p
-
 -- pages by the chooser, and then a window
 unfoldable pub window_choice : Setup → List Mapping → Request → Choice
 window_choice S o r = on_page_found (page_for S o r) (span r.buffer.address r.buffer.length) (λ p. cond (nat_le 8 (length o)) no_window (Ok (placed_at r p)))
-
--- the highest n free pages of the best gap begin at q
-abbrev pub BestPages : Setup → List Mapping → Request → ℕ → Type 0
-BestPages S o r q = Chosen page_number 1 (last_of S r.card.0) (used_pages o r.card.0) (span r.buffer.address r.buffer.length) q
-
--- no gap of the card's device pages holds the span
-abbrev pub NoPagesLeft : Setup → List Mapping → Request → Type 0
-NoPagesLeft S o r = NoRoom page_number 1 (last_of S r.card.0) (used_pages o r.card.0) (span r.buffer.address r.buffer.length)
 
 -- 10 exactly when no gap holds the span, else 11 exactly when all 8 windows are in use, else the best gap's pages
 abbrev pub Chooses : Setup → List Mapping → Request → Choice → Type 0

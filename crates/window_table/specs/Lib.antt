@@ -1,3 +1,2 @@
-pub mod Slots
 pub mod Choosing
 pub mod Left

@@ -1,8 +1,10 @@
-// The fixed table of 8 windows, each with one open mapping.
+// The fixed table of 8 windows, each free or with one open mapping, and one lent at a time to open, turn or close it.
 #![tactic(auto)]
 
-mod table;
-mod window;
+use slots::{Slot, SlotTable};
 
-pub use table::WindowTable;
-pub use window::Window;
+// A window is a slot of this table.
+pub type Window = Slot;
+
+// 8, since memory is fixed.
+pub type WindowTable = SlotTable<8>;

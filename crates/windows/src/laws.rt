@@ -2,7 +2,7 @@
 ghost use Rattle.pages.specs.Lawful.{Possible};
 ghost use Rattle.window_table.specs.Choosing.{setup_of, window_kind};
 ghost use Rattle.window_table.specs.Left.{WindowsLeft};
-ghost use Rattle.window_table.specs.Slots.{opened_of, reach_in};
+ghost use Rattle.slots.specs.Slots.{opened_of, reach_in};
 ghost use Rattle.window_table.proofs.Laws.{window_kept, window_disjoint, window_reach, window_landing, window_room, window_refusals, window_bounds};
 
 use crate::windows::Windows;
@@ -11,13 +11,13 @@ use mapper::Meaning;
 impl Meaning for Windows {
     ghost setup = { λ w. setup_of w.geometry };
 
-    ghost opened = { λ w. opened_of w.table.windows };
+    ghost opened = { λ w. opened_of w.table.slots };
 
-    ghost reach = { λ w. reach_in w.table.windows };
+    ghost reach = { λ w. reach_in w.table.slots };
 
     ghost kind = { window_kind };
 
-    ghost leaves = { λ w t v. WindowsLeft w.table.windows t v.table.windows };
+    ghost leaves = { λ w t v. WindowsLeft w.table.slots t v.table.slots };
 
     ghost possible = { Possible };
 
@@ -27,7 +27,7 @@ impl Meaning for Windows {
 
     ghost disjoint_pages = { window_disjoint };
 
-    ghost exact_reach = { λ w c p. window_reach (setup_of w.geometry) w.table.windows w.kept c p };
+    ghost exact_reach = { λ w c p. window_reach (setup_of w.geometry) w.table.slots w.kept c p };
 
     ghost landing = { window_landing };
 

@@ -18,7 +18,7 @@ impl Mapper for Windows {
     }
 
     fn open_count(&self) -> u32 {
-        self.table.count()
+        self.table.count() as u32
     }
 
     fn is_reserved(&self, _frame: Frame) -> bool {
@@ -33,7 +33,7 @@ impl Mapper for Windows {
         self.table.mapping_at(card, device)
     }
 
-    #[tactic(auto, using(crate::proofs::Calls::asked, crate::proofs::Calls::would_refuse, crate::proofs::Calls::would_fail, crate::proofs::Calls::would_place), unfolding(meaning::specs::Checks::verdict))]
+    #[tactic(auto, using(crate::proofs::Calls::asked, pages::proofs::Calls::would_refuse, pages::proofs::Calls::would_fail, pages::proofs::Calls::would_place), unfolding(meaning::specs::Checks::verdict))]
     fn would(&self, memory: &[u8], request: Request) -> Result<DeviceAddress, Fault> {
         self.admit(memory, request)?;
         let placement = self.place(request)?;

@@ -4,35 +4,32 @@ ghost use Rattle.units.specs.declared.mapping.Mapping.{Mapping as Opened};
 ghost use Rattle.units.specs.declared.mapping.Request.{Request as RequestOf};
 ghost use Rattle.pages.specs.Lawful.{Ranged, lawful};
 ghost use Rattle.window_table.specs.Choosing.{granted, setup_refusal, setup_of, told_by, window_choice, Chooses};
-ghost use Rattle.window_table.specs.Slots.{opened_of};
+ghost use Rattle.slots.specs.Slots.{opened_of};
 
 use chooser::Space;
 use units::{DeviceAddress, DevicePage, Fault, FaultKind, Geometry, Placement, Request};
-use window_table::{Window, WindowTable};
+use window_table::WindowTable;
 
 #[derive(Drop)]
 pub struct Windows {
     pub geometry: Geometry,
     pub table: WindowTable,
     ghost ranged: { Ranged (setup_of geometry) },
-    ghost kept: { lawful (setup_of geometry) (opened_of table.windows) ≡ true },
+    ghost kept: { lawful (setup_of geometry) (opened_of table.slots) ≡ true },
 }
 
 impl Windows {
     // Windows with nothing open; where a number is out of range, with no cards and no frames. `choosing` tells how requests will be placed.
-    #[tactic(auto, using(window_table::proofs::Laws::choice_words, window_table::proofs::Laws::granted_ranged, window_table::proofs::Laws::fresh), unfolding(window_table::specs::Slots::opened_of))]
+    #[tactic(auto, using(window_table::proofs::Laws::choice_words, window_table::proofs::Laws::granted_ranged, window_table::proofs::Laws::fresh))]
     pub fn set_up(geometry: Geometry) -> Windows
         ensures numbers { result.geometry ≡ granted geometry }
         ensures refusal { told_by result.geometry ≡ setup_refusal geometry }
-        ensures empty { opened_of result.table.windows ≡ [] }
+        ensures empty { opened_of result.table.slots ≡ [] }
         ensures choosing { (o : List Opened) (q : RequestOf) → 0 < q.buffer.length → Chooses (setup_of result.geometry) o q (window_choice (setup_of result.geometry) o q) }
     {
-        let table = WindowTable {
-            windows: [Window { mapping: None }; 8],
-        };
         Windows {
             geometry: accepted(geometry),
-            table,
+            table: WindowTable::new(),
         }
     }
 
@@ -45,11 +42,10 @@ impl Windows {
     }
 
     // Where a request of a card would be put: the chooser's pages, and a window.
-    #[tactic(auto, using(crate::proofs::Calls::page_is, window_table::proofs::Laws::choice_full))]
     pub(crate) fn place(&self, request: Request) -> Result<Placement, Fault>
         requires card { request.card.0 < self.now.geometry.cards }
         requires some { 0 < request.buffer.length }
-        ensures { result ≡ window_choice (setup_of self.now.geometry) (opened_of self.now.table.windows) request }
+        ensures { result ≡ window_choice (setup_of self.now.geometry) (opened_of self.now.table.slots) request }
     {
         let used = self.table.used_pages(request.card);
         let pages = Space {

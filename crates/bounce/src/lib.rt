@@ -1,0 +1,9 @@
+// The bounce layer over any mapper: what is not whole goes through a pool of frames.
+#![tactic(auto)]
+
+mod bounce;
+mod laws;
+mod mapping;
+mod moves;
+
+pub use bounce::Bounce;

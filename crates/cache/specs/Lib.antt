@@ -1,0 +1,4 @@
+pub mod Entries
+pub mod Held
+pub mod Descriptors
+pub mod Posted

@@ -1,0 +1,4 @@
+pub mod Words
+pub mod Clearing
+pub mod Giving
+pub mod Spans

@@ -1,0 +1,15 @@
+pub mod Moves
+pub mod Landing
+pub mod Tied
+pub mod Opening
+pub mod Passing
+pub mod Reports
+pub mod Writing
+pub mod Together
+pub mod Pairs
+pub mod Standing
+pub mod Granting
+pub mod Matched
+pub mod Main
+pub mod Shielding
+pub mod Example

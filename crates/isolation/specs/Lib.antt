@@ -1,0 +1,4 @@
+pub mod Lists
+pub mod Shielding
+pub mod Promise
+pub mod Example

@@ -1,0 +1,16 @@
+pub mod Finding
+pub mod Checks
+pub mod Passing
+pub mod Lowered
+pub mod LawsAbove
+pub mod Choosing
+pub mod Keeping
+pub mod Lawful
+pub mod Starting
+pub mod Loans
+pub mod Lifted
+pub mod Held
+pub mod Moves
+pub mod Props
+pub mod Asking
+pub mod Calls

@@ -1,0 +1,54 @@
+-- What slots hold, as open mappings, as reach and as pages in use.
+use Rattle.std.specs.Prelude.{◌≡◌, ◌≢◌, ℕ, Bool, true, false, cond, List, [], ◌∷◌, Some, None, Option, ◌==◌, slice_index_or}
+use Rattle.units.specs.declared.mapping.Mapping.{Mapping}
+use Rattle.units.specs.declared.mapping.Reach.{Reach}
+use Rattle.units.specs.declared.number.DevicePage.{DevicePage}
+use Rattle.chooser.specs.declared.gap.Range.{Range}
+use Rattle.meaning.specs.Mappings.{insert, on_page, reach_through}
+use Rattle.meaning.specs.Effects.{on_found}
+use Rattle.pages.specs.Pages.{pages_of}
+use Rattle.slots.specs.declared.slot.Slot.{Slot}
+
+abbrev pub free_slot : Slot
+free_slot = record { mapping = None }
+
+abbrev pub holding : Mapping → Slot
+holding m = record { mapping = Some m }
+
+-- the slot is free
+abbrev pub is_free : Slot → Bool
+is_free s = on_found s.mapping true (λ m. false)
+
+-- the slot's mapping is such
+abbrev pub has : (Mapping → Bool) → Slot → Bool
+has such s = on_found s.mapping false such
+
+-- each slot holds one open mapping
+unfoldable pub opened_of : List Slot → List Mapping
+opened_of [] = []
+opened_of (s ∷ ss) = on_found s.mapping (opened_of ss) (λ m. insert m (opened_of ss))
+
+-- what card c reaches through the slot at page p
+abbrev pub reach_by : ℕ → ℕ → Slot → Option Reach
+reach_by c p s = on_found s.mapping None (λ m. cond (on_page c p m) (reach_through m p) None)
+
+-- an access is judged by the slot with its card and page
+unfoldable pub reach_in : List Slot → ℕ → ℕ → Option Reach
+reach_in [] c p = None
+reach_in (s ∷ ss) c p = cond (has (on_page c p) s) (reach_by c p s) (reach_in ss c p)
+
+abbrev pub no_pages : Range DevicePage
+no_pages = record { first = record { 0 = 0 }; count = 0 }
+
+-- the pages of card c that the slot takes
+abbrev pub pages_in : ℕ → Slot → Range DevicePage
+pages_in c s = on_found s.mapping no_pages (λ m. cond (m.card.0 == c) (pages_of m) no_pages)
+
+unfoldable pub all_pages : ℕ → List Slot → List (Range DevicePage)
+all_pages c [] = []
+all_pages c (s ∷ ss) = pages_in c s ∷ all_pages c ss
+
+-- at most one slot is another: each other is as it was
+pub record OneChanged (ss ss' : List Slot) : Type 0 where
+  pub index : ℕ
+  pub others : (j : ℕ) → (j ≢ index) → slice_index_or ss' j free_slot ≡ slice_index_or ss j free_slot

@@ -1,0 +1,10 @@
+pub mod Leaves
+pub mod Choice
+pub mod Laws
+pub mod Walking
+pub mod Exact
+pub mod Fitting
+pub mod Starting
+pub mod Coherence
+pub mod Room
+pub mod Granting

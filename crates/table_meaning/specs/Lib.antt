@@ -1,0 +1,5 @@
+pub mod Opened
+pub mod Choosing
+pub mod Starting
+pub mod Coherent
+pub mod Judging

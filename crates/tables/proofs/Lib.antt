@@ -1,0 +1,4 @@
+pub mod Calls
+pub mod Opening
+pub mod Closing
+pub mod Accessing

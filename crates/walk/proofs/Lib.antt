@@ -1,0 +1,4 @@
+pub mod Levels
+pub mod Prefixes
+pub mod Unfolding
+pub mod Reaching
