@@ -12,7 +12,7 @@ use denote.Param.Members.{Mut}
 use Rattle.std.proofs.lemmas.Bool.{cases_lt, cases_Bool}
 use Rattle.units.specs.declared.number.DevicePage.{DevicePage}
 use Rattle.chooser.specs.declared.gap.Range.{Range}
-use Rattle.std.proofs.lemmas.Bool.{cond-true}
+use Rattle.std.proofs.lemmas.Bool.{cond-true, cond-false}
 use Rattle.units.specs.declared.mapping.Holder.{Holder}
 use Rattle.units.specs.declared.mapping.Mapping.{Mapping}
 use Rattle.meaning.specs.Mappings.{starts, on_page, covers, card_holds, turned, insert, remove, turn, find, held, reach_of, reach_through}
@@ -25,16 +25,16 @@ use Rattle.pages.proofs.Made.{made_each}
 use Rattle.pages.proofs.Facts.{lawful_facts}
 use Rattle.pages.proofs.Laws.{disjoint}
 use Rattle.slots.specs.declared.slot.Slot.{Slot}
-use Rattle.slots.specs.Slots.{free_slot, holding, is_free, has, opened_of, reach_by, no_pages, pages_in, all_pages}
+use Rattle.slots.specs.Slots.{free_slot, holding, is_free, has, opened_of, reach_by, no_pages, pages_in, all_pages, first_becomes}
 use Rattle.slots.proofs.Slots.{in_opened, nowhere, count_none, count_free, count_held, count_most, close_slot, turn_slot}
 
 -- the mapping of a slot of which a question holds
-record Such (such : Mapping → Bool) (slot : Slot) : Type 0 where
-  mapping : Mapping
-  holds : slot.mapping ≡ Some mapping
-  is : such mapping ≡ true
+pub record Such (such : Mapping → Bool) (slot : Slot) : Type 0 where
+  pub mapping : Mapping
+  pub holds : slot.mapping ≡ Some mapping
+  pub is : such mapping ≡ true
 
-has_such : (such : Mapping → Bool) (slot : Slot) → has such slot ≡ true → Such such slot
+pub has_such : (such : Mapping → Bool) (slot : Slot) → has such slot ≡ true → Such such slot
 has_such such slot e = go slot.mapping refl e
   where
     go : (f : Option Mapping) → slot.mapping ≡ f → on_found f false such ≡ true → Such such slot
@@ -82,6 +82,22 @@ not_closed c v ss h = sym (remove_none c v (opened_of ss) (nowhere (starts c v) 
 pub not_turned : (t : Holder) (c v : ℕ) (ss : List Slot) → ((k : ℕ) → k < length ss → has (starts c v) (get_or ss k free_slot) ≡ false) → opened_of ss ≡ turn t c v (opened_of ss)
 not_turned t c v ss h = sym (turn_none t c v (opened_of ss) (nowhere (starts c v) ss h))
 
+-- the first slot that is such became another
+pub first_at : (such : Slot → Bool) (f : Slot → Slot) (ss : List Slot) (i : ℕ) → i < length ss → such (get_or ss i free_slot) ≡ true
+    → ((k : ℕ) → k < i → such (get_or ss k free_slot) ≡ false) → set ss i (f (get_or ss i free_slot)) ≡ first_becomes such f ss
+unfolding first_becomes
+first_at such f [] i l here before = absurd (omega arith)
+first_at such f (s ∷ ss) zero l here before = sym (cond-true (such s) (f s ∷ ss) (s ∷ first_becomes such f ss) here)
+first_at such f (s ∷ ss) (suc i) l here before =
+    ap (λ (z : List Slot). s ∷ z) (first_at such f ss i (omega arith) here (λ k q. before (suc k) (omega arith)))
+    ∙ sym (cond-false (such s) (f s ∷ ss) (s ∷ first_becomes such f ss) (before 0 (omega arith)))
+
+pub none_such : (such : Slot → Bool) (f : Slot → Slot) (ss : List Slot) → ((k : ℕ) → k < length ss → such (get_or ss k free_slot) ≡ false) → ss ≡ first_becomes such f ss
+unfolding first_becomes
+none_such such f [] h = refl
+none_such such f (s ∷ ss) h = ap (λ (z : List Slot). s ∷ z) (none_such such f ss (λ k l. h (suc k) (omega arith)))
+    ∙ sym (cond-false (such s) (f s ∷ ss) (s ∷ first_becomes such f ss) (h 0 (omega arith)))
+
 -- What a search of the slots gives ----------------------------------------------------------------------
 
 -- the place that a search gave
@@ -89,7 +105,12 @@ abbrev place_in : (Slot → Bool) → List Slot → Option ℕ
 place_in such ss = cond (ltb (position_or_len such ss) (length ss)) (Some (position_or_len such ss)) None
 
 pub found_place : (such : Slot → Bool) (ss : List Slot) (i : ℕ) → Some i ≡ place_in such ss → (i < length ss) × (such (get_or ss i free_slot) ≡ true)
-found_place such ss i e = (grind (arith, nat_tests), grind (arith, nat_tests, passes_at_first such ss free_slot))
+    × ((k : ℕ) → k < i → such (get_or ss k free_slot) ≡ false)
+found_place such ss i e = (
+  grind (arith, nat_tests),
+  grind (arith, nat_tests, passes_at_first such ss free_slot),
+  λ k l. fails_before_first such ss k free_slot (grind (arith, nat_tests)),
+)
 
 -- it gave none
 pub found_none : (such : Slot → Bool) (ss : List Slot) → None ≡ place_in such ss → (k : ℕ) → k < length ss → such (get_or ss k free_slot) ≡ false

@@ -1,10 +1,11 @@
 -- What slots hold, as open mappings, as reach and as pages in use.
-use Rattle.std.specs.Prelude.{◌≡◌, ◌≢◌, ℕ, Bool, true, false, cond, List, [], ◌∷◌, Some, None, Option, ◌==◌, slice_index_or}
+use Rattle.std.specs.Prelude.{◌≡◌, ℕ, Bool, true, false, cond, List, [], ◌∷◌, Some, None, Option, ◌==◌}
+use Rattle.units.specs.declared.mapping.Holder.{Holder}
 use Rattle.units.specs.declared.mapping.Mapping.{Mapping}
 use Rattle.units.specs.declared.mapping.Reach.{Reach}
 use Rattle.units.specs.declared.number.DevicePage.{DevicePage}
 use Rattle.chooser.specs.declared.gap.Range.{Range}
-use Rattle.meaning.specs.Mappings.{insert, on_page, reach_through}
+use Rattle.meaning.specs.Mappings.{insert, on_page, reach_through, starts, turned}
 use Rattle.meaning.specs.Effects.{on_found}
 use Rattle.pages.specs.Pages.{pages_of}
 use Rattle.slots.specs.declared.slot.Slot.{Slot}
@@ -48,7 +49,24 @@ unfoldable pub all_pages : ℕ → List Slot → List (Range DevicePage)
 all_pages c [] = []
 all_pages c (s ∷ ss) = pages_in c s ∷ all_pages c ss
 
--- at most one slot is another: each other is as it was
-pub record OneChanged (ss ss' : List Slot) : Type 0 where
-  pub index : ℕ
-  pub others : (j : ℕ) → (j ≢ index) → slice_index_or ss' j free_slot ≡ slice_index_or ss j free_slot
+-- the first slot that is such becomes what f makes of it; where none is, all stay
+unfoldable pub first_becomes : (Slot → Bool) → (Slot → Slot) → List Slot → List Slot
+first_becomes such f [] = []
+first_becomes such f (s ∷ ss) = cond (such s) (f s ∷ ss) (s ∷ first_becomes such f ss)
+
+-- the first free slot takes the mapping
+abbrev pub taken : Mapping → List Slot → List Slot
+taken m = first_becomes is_free (λ s. holding m)
+
+-- the slot whose mapping starts at card c's device address v becomes free
+abbrev pub freed : (c v : ℕ) → List Slot → List Slot
+freed c v = first_becomes (has (starts c v)) (λ s. free_slot)
+
+-- that slot's mapping passes to the holder h
+abbrev pub passed : Holder → (c v : ℕ) → List Slot → List Slot
+passed h c v = first_becomes (has (starts c v)) (λ s. on_found s.mapping s (λ m. holding (turned h m)))
+
+-- the first free slot took a mapping
+pub record FirstTaken (ss ss' : List Slot) : Type 0 where
+  pub mapping : Mapping
+  pub became : ss' ≡ taken mapping ss

@@ -4,7 +4,7 @@ ghost use Rattle.units.specs.declared.mapping.Mapping.{Mapping as Opened};
 ghost use Rattle.meaning.specs.Mappings.{In, key, insert, remove, turn, find, held, reach_of};
 ghost use Rattle.meaning.specs.Worlds.{Setup};
 ghost use Rattle.pages.specs.Lawful.{lawful};
-ghost use Rattle.slots.specs.Slots.{free_slot, opened_of, all_pages, pages_in, OneChanged};
+ghost use Rattle.slots.specs.Slots.{free_slot, opened_of, all_pages, pages_in, taken, freed, passed};
 
 use crate::slot::Slot;
 use chooser::Range;
@@ -84,12 +84,12 @@ impl<const N: usize> SlotTable<N> {
             .reach(card, page)
     }
 
-    // A free slot takes the mapping, if there is one. It is found by its place, here and below: once a slot that `iter_mut` found
+    // The first free slot takes the mapping, if there is one. It is found by its place, here and below: once a slot that `iter_mut` found
     // is given back, a proof knows no slot of the table.
     pub fn open(&mut self, mapping: Mapping)
         ensures opens { length (opened_of self.old.slots) < N → ((n : Opened) → In n (opened_of self.old.slots) → key n ≢ key mapping) → opened_of self.new.slots ≡ insert mapping (opened_of self.old.slots) }
         ensures full { N ≤ length (opened_of self.old.slots) → self.new ≡ self.old }
-        ensures one { OneChanged self.old.slots self.new.slots }
+        ensures first { self.new.slots ≡ taken mapping self.old.slots }
     {
         if let Some(i) = self.slots.iter().position(|slot| slot.is_free()) {
             self.slots[i].open(mapping);
@@ -99,7 +99,7 @@ impl<const N: usize> SlotTable<N> {
     // The slot whose mapping starts at the card's device address becomes free.
     pub fn close(&mut self, card: Card, device: DeviceAddress)
         ensures closes { (S : Setup) → lawful S (opened_of self.old.slots) ≡ true → opened_of self.new.slots ≡ remove card.0 device.0 (opened_of self.old.slots) }
-        ensures one { OneChanged self.old.slots self.new.slots }
+        ensures first { self.new.slots ≡ freed card.0 device.0 self.old.slots }
     {
         if let Some(i) = self
             .slots
@@ -113,7 +113,7 @@ impl<const N: usize> SlotTable<N> {
     // The mapping that starts at the card's device address passes to another holder.
     pub fn turn(&mut self, card: Card, device: DeviceAddress, holder: Holder)
         ensures turns { (S : Setup) → lawful S (opened_of self.old.slots) ≡ true → opened_of self.new.slots ≡ turn holder card.0 device.0 (opened_of self.old.slots) }
-        ensures one { OneChanged self.old.slots self.new.slots }
+        ensures first { self.new.slots ≡ passed holder card.0 device.0 self.old.slots }
     {
         if let Some(i) = self
             .slots

@@ -3,10 +3,12 @@
 use Rattle.std.specs.Prelude.{◌≡◌, ℕ, cond, List, [], is_some, Some, None, Option}
 use Rattle.units.specs.declared.mapping.Mapping.{Mapping}
 use Rattle.units.specs.declared.mapping.Reach.{Reach}
+use Rattle.units.specs.declared.mapping.Sync.{Sync}
+use Rattle.units.specs.Holders.{holder_after}
 use Rattle.meaning.specs.Mappings.{first_page, page_count, find, reach_of}
 use Rattle.mapper.specs.Tasks.{Task, opens, closes, turns, translates}
 use Rattle.slots.specs.declared.slot.Slot.{Slot}
-use Rattle.slots.specs.Slots.{OneChanged, opened_of}
+use Rattle.slots.specs.Slots.{opened_of, FirstTaken, freed, passed}
 use Rattle.cache.specs.declared.cache.Translation.{Translation}
 use Rattle.cache.specs.declared.queue.Descriptor.{Descriptor}
 use Rattle.cache.specs.Entries.{added, cached, without_span}
@@ -30,11 +32,11 @@ open_in x = opened_of x.records
 abbrev pub LaidOut : (C T : ℕ) → Kept → Type 0
 LaidOut C T x = Fits C T x.tables (leaf_of (open_in x)) (pages_of (open_in x)) x.words
 
--- map: tables in use stay where they stand, and free ones are taken; nothing is cached or posted
+-- map: tables in use stay where they stand, and free ones are taken; the first free record takes the mapping; nothing is cached or posted
 pub record Grown (C T : ℕ) (x y : Kept) : Type 0 where
   pub stay : Stay x.tables y.tables
   pub laid : LaidOut C T y
-  pub records : OneChanged x.records y.records
+  pub records : FirstTaken x.records y.records
   pub cache : y.cache ≡ x.cache
   pub queue : y.queue ≡ x.queue
 
@@ -42,15 +44,15 @@ pub record Grown (C T : ℕ) (x y : Kept) : Type 0 where
 pub record Shrunk (C T : ℕ) (x y : Kept) (m : Mapping) : Type 0 where
   pub stay : Stay y.tables x.tables
   pub laid : LaidOut C T y
-  pub records : OneChanged x.records y.records
+  pub records : y.records ≡ freed m.card.0 m.device.0 x.records
   pub cache : y.cache ≡ without_span m.card.0 (first_page m) (page_count m) x.cache
   pub queue : y.queue ≡ []
 
--- a sync: one record at most is another
-pub record Turned (x y : Kept) : Type 0 where
+-- a sync: one record at most passes to the other holder
+pub record Turned (s : Sync) (c v : ℕ) (x y : Kept) : Type 0 where
   pub tables : y.tables ≡ x.tables
   pub words : y.words ≡ x.words
-  pub records : OneChanged x.records y.records
+  pub records : y.records ≡ passed (holder_after s) c v x.records
   pub cache : y.cache ≡ x.cache
   pub queue : y.queue ≡ x.queue
 
@@ -70,5 +72,5 @@ pub record Accessed (x y : Kept) (c p : ℕ) : Type 0 where
 abbrev pub TablesLeft : (C T : ℕ) → Kept → Task → Kept → Type 0
 TablesLeft C T x (opens r) y = Grown C T x y
 TablesLeft C T x (closes c v) y = (m : Mapping) → find (open_in x) c v ≡ Some m → Shrunk C T x y m
-TablesLeft C T x (turns s c v) y = Turned x y
+TablesLeft C T x (turns s c v) y = Turned s c v x y
 TablesLeft C T x (translates c p a) y = Accessed x y c p

@@ -5,7 +5,7 @@ ghost use Rattle.meaning.specs.Worlds.{Setup};
 ghost use Rattle.pages.specs.Lawful.{lawful};
 ghost use Rattle.table_meaning.specs.Coherent.{Unnamed};
 ghost use Rattle.cache.specs.Held.{held};
-ghost use Rattle.slots.specs.Slots.{OneChanged, opened_of};
+ghost use Rattle.slots.specs.Slots.{freed, opened_of};
 
 use cache::Cache;
 use records::RecordTable;
@@ -15,7 +15,7 @@ use units::Mapping;
 pub(crate) fn release(records: &mut RecordTable, cache: &Cache, mapping: Mapping)
     requires { Unnamed (held cache.now) mapping }
     ensures closes { (S : Setup) → lawful S (opened_of records.old.slots) ≡ true → opened_of records.new.slots ≡ remove mapping.card.0 mapping.device.0 (opened_of records.old.slots) }
-    ensures one { OneChanged records.old.slots records.new.slots }
+    ensures first { records.new.slots ≡ freed mapping.card.0 mapping.device.0 records.old.slots }
 {
     records.close(mapping.card, mapping.device);
 }

@@ -1,10 +1,11 @@
-use Rattle.std.proofs.Common.{rules, sym, ◌∙◌}
+use Rattle.std.proofs.Common.{rules, set, sym, ap, ◌∙◌}
 use borrow.Author.Tests.{tests}
 use Rattle.std.proofs.lemmas.Iterator.{YieldsList-from_slice}
 use Rattle.std.proofs.lemmas.Iterator.Search.{position_from_yields_List}
 use Rattle.meaning.specs.Mappings.{starts}
-use Rattle.slots.specs.Slots.{has}
-use Rattle.slots.proofs.Looking.{found_place, found_none, closed_at, not_closed}
+use Rattle.slots.specs.declared.slot.Slot.{Slot}
+use Rattle.slots.specs.Slots.{free_slot, has}
+use Rattle.slots.proofs.Looking.{found_place, found_none, first_at, none_such, closed_at, not_closed}
 use Rattle.slots.proofs.table.SlotTable.close.Goals as goal
 
 pub returns-in-Some-clause-closes : goal.returns-in-Some-clause-closes
@@ -20,3 +21,16 @@ returns-in_default-clause-closes g c =
     let such = has (starts c.args.card.0 c.args.device.0) in
     let h = found_none such ss (sym c.in_default.is ∙ position_from_yields_List such _ _ c.position.result c.position.ensures.ran (YieldsList-from_slice ss cc) (λ x b q k. search (rules, tests))) in
     λ S e. not_closed c.args.card.0 c.args.device.0 ss h
+
+pub returns-in-Some-clause-first : goal.returns-in-Some-clause-first
+returns-in-Some-clause-first g c =
+    let ss = c.args.self.now.slots in
+    let such = has (starts c.args.card.0 c.args.device.0) in
+    let h = found_place such ss c.in-Some.i (sym c.in-Some.is ∙ position_from_yields_List such _ _ c.position.result c.position.ensures.ran (YieldsList-from_slice ss cc) (λ x b q k. search (rules, tests))) in
+    ap (λ (z : Slot). set ss c.in-Some.i z) c.close.ensures ∙ first_at such (λ s. free_slot) ss c.in-Some.i h.0 h.1 h.2
+
+pub returns-in_default-clause-first : goal.returns-in_default-clause-first
+returns-in_default-clause-first g c =
+    let ss = c.args.self.now.slots in
+    let such = has (starts c.args.card.0 c.args.device.0) in
+    none_such such (λ s. free_slot) ss (found_none such ss (sym c.in_default.is ∙ position_from_yields_List such _ _ c.position.result c.position.ensures.ran (YieldsList-from_slice ss cc) (λ x b q k. search (rules, tests))))

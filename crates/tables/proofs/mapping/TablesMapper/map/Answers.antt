@@ -68,4 +68,4 @@ returns c =
     let fits = opened_fits s c.args.memory.now c.args.request p admit e c.new_mapping-mapping.result c.page_number-first.result c.span.result c.of.result.0 c.new_mapping-mapping.ensures first c.span.ensures.value c.of.ensures.value
     c.open_span.new.tables c.open_span.new.words (opened_of c.open.new.self.slots) (c.open_span.ensures.opened _ _ _ _ s.fits below) opens in
     opened_call s _ c.args.memory.now refl c.args.request p admit e (choice_own (setup_in s) (open_in s) c.args.request p e) opens
-    (record { stay = c.open_span.ensures.stay; laid = fits; records = c.open.ensures.one; cache = refl; queue = refl })
+    (record { stay = c.open_span.ensures.stay; laid = fits; records = record { mapping = _; became = c.open.ensures.first }; cache = refl; queue = refl })

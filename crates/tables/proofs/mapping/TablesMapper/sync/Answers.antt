@@ -4,6 +4,7 @@ use Rattle.units.specs.declared.mapping.Mapping.{Mapping}
 use Rattle.meaning.specs.Mappings.{turn}
 use Rattle.pages.specs.Lawful.{lawful}
 use Rattle.pages.proofs.Facts.{lawful_turn}
+use Rattle.slots.specs.Slots.{passed}
 use Rattle.cache.specs.Held.{held}
 use Rattle.tree.specs.Layout.{Fits}
 use Rattle.table_meaning.specs.Coherent.{Coherent}
@@ -35,4 +36,4 @@ returns c =
     let e = c.turn.ensures.turns (setup_in s) s.possible.0.1 in
     turned_call s _ c.args.memory.now refl c.args.call c.args.card.0 c.args.device.0 c.in_ok-turning.field-0 c.in_ok-turning.ensures.0 c.in_ok-turning.ensures.1
     (e ∙ ap (λ (h : Holder). turn h c.args.card.0 c.args.device.0 (open_in s)) c.holder.ensures)
-    (record { tables = refl; words = refl; records = c.turn.ensures.one; cache = refl; queue = refl })
+    (record { tables = refl; words = refl; records = c.turn.ensures.first ∙ ap (λ (h : Holder). passed h c.args.card.0 c.args.device.0 s.records.slots) c.holder.ensures; cache = refl; queue = refl })

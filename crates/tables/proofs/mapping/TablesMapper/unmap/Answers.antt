@@ -59,7 +59,7 @@ returns c =
     (closes_left s.geometry.cards s.count (kept_in s) _ r.card.0 r.device.0 m found (record {
       stay = c.close_span.ensures.stay;
       laid = fits;
-      records = c.release.ensures.one;
+      records = c.release.ensures.first;
       cache = entries_left s r.card.0 r.device.0 m found (held c.invalidate.new.cache) c.page-page.result.0 c.span-span.result c.page-page.ensures c.span-span.ensures.value c.invalidate.ensures.cache;
       queue = c.invalidate.ensures.queue;
     }))

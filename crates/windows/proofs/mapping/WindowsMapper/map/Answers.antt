@@ -22,4 +22,4 @@ returns c =
     let e = sym c.in_ok-placement.ensures in
     let p = c.in_ok-placement.placement in
     let opens = one_more s c.args.memory.now c.args.request p admit e c.new_mapping.result (opened_of c.open.new.self.slots) c.new_mapping.ensures c.open.ensures.opens in
-    opened_call s _ c.args.memory.now refl c.args.request p admit e (choice_own (setup_of s.geometry) (opened_of s.table.slots) c.args.request p e) opens c.open.ensures.one
+    opened_call s _ c.args.memory.now refl c.args.request p admit e (choice_own (setup_of s.geometry) (opened_of s.table.slots) c.args.request p e) opens (record { mapping = _; became = c.open.ensures.first })
