@@ -5,5 +5,6 @@ mod bounce;
 mod laws;
 mod mapping;
 mod moves;
+mod release;
 
 pub use bounce::Bounce;

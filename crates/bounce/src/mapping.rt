@@ -13,6 +13,7 @@ ghost use Rattle.layer_steps.specs.Tied.{open_over};
 
 use crate::bounce::Bounce;
 use crate::moves::{copy_at, copy_back, copy_in};
+use crate::release::release;
 use mapper::{Mapper, Meaning};
 use units::{
     Access, Buffer, Card, DeviceAddress, DevicePage, Fault, FaultKind, Frame, Mapping, Request,
@@ -123,7 +124,7 @@ impl<M: Mapper> Mapper for Bounce<M> {
             ..request
         };
         passed_on(self.lower.unmap(memory, below))?;
-        self.pool.give_back(Frame::of(mapping.landing));
+        release(&mut self.pool, &self.lower, Frame::of(mapping.landing));
         Ok(())
     }
 

@@ -1,5 +1,5 @@
 -- What is found at a device address once a mapping there is closed or turned.
-use Rattle.std.proofs.Common.{◌≡◌, ◌≢◌, ◌⊎◌, inl, inr, ℕ, Bool, true, false, cond, List, [], ◌∷◌, Some, None, refl, ap, subst, ◌∙◌, arith}
+use Rattle.std.proofs.Common.{◌≡◌, ◌≢◌, ◌⊎◌, inl, inr, ℕ, Bool, true, false, cond, List, [], ◌∷◌, Some, None, refl, ap, ◌∙◌, arith}
 use Rattle.std.proofs.lemmas.Bool.{cond-true, cond-false}
 use Rattle.std.proofs.lemmas.Bool.Decides.{nat_tests}
 use Rattle.units.specs.declared.mapping.Holder.{Holder}
@@ -26,16 +26,6 @@ find_turned h c v (n ∷ o) m e = go (starts c v n) refl e (λ i. find_turned h 
         → cond (starts c v (cond b (turned h n) n)) (Some (cond b (turned h n) n)) (find (turn h c v o) c v) ≡ Some (turned h m)
     go true s f later = cond-true (starts c v n) (Some (turned h n)) (find (turn h c v o) c v) s ∙ (let same : n ≡ m = cc in ap (λ (z : Mapping). Some (turned h z)) same)
     go false s f later = cond-false (starts c v n) (Some n) (find (turn h c v o) c v) s ∙ later f
-
--- what is found starts there
-pub find_starts : (c v : ℕ) (o : List Mapping) (m : Mapping) → find o c v ≡ Some m → starts c v m ≡ true
-unfolding find
-find_starts c v [] m e = absurd (cc)
-find_starts c v (n ∷ o) m e = go (starts c v n) refl e (λ i. find_starts c v o m i)
-  where
-    go : (b : Bool) → starts c v n ≡ b → cond b (Some n) (find o c v) ≡ Some m → (find o c v ≡ Some m → starts c v m ≡ true) → starts c v m ≡ true
-    go true s f later = let same : n ≡ m = cc in subst (λ (z : Mapping). starts c v z ≡ true) same s
-    go false s f later = later f
 
 -- no mapping starts at two places
 apart_starts : (c v d w : ℕ) (m : Mapping) → (d ≢ c) ⊎ (w ≢ v) → starts d w m ≡ true → starts c v m ≡ false

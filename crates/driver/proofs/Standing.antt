@@ -25,7 +25,7 @@ use Rattle.units.specs.declared.fault.FaultKind.{FaultKind}
 use Rattle.units.specs.declared.fault.FaultKind.TheVariants.{NoCard, NoDirection, WrongLength, OutsideMemory, ReservedFrame, OtherMapping, WrongHolder}
 use Rattle.meaning.specs.Checks.{Verdict, fine, errs, unless, ◌then◌, is_card, is_direction, is_memory, is_buffer, in_memory, none_of, none_reserved, fault, chosen, as_opened, turnable, verdict}
 use Rattle.meaning.specs.Effects.{State, answer, answered, direction_of, new_mapping, opens_after, on_choice, on_fine}
-use Rattle.meaning.proofs.Lists.{insert_in, insert_keeps, find_in, find_is_in}
+use Rattle.meaning.proofs.Lists.{insert_in, insert_keeps, find_in, find_is_in, find_starts}
 use Rattle.meaning.proofs.Unique.{one_start}
 use Rattle.mapper.specs.Tasks.{Task, task_of, Left}
 use Rattle.mapper.specs.Called.{here}
@@ -33,7 +33,7 @@ use Rattle.engine.specs.declared.Engine.{Engine}
 use Rattle.engine.specs.Made.{state, Made}
 use Rattle.driver.specs.declared.buffer.Transfer.{Transfer}
 use Rattle.driver.specs.Stands.{request_of, closing_of, Stands, is_mismatch_kind, StillStands, KeepsAll, KeepsOthers}
-use Rattle.driver.proofs.Finding.{find_removed, find_turned, find_starts, find_removed_other, find_turned_other}
+use Rattle.driver.proofs.Finding.{find_removed, find_turned, find_removed_other, find_turned_other}
 
 -- Verdicts ------------------------------------------------------------------------------------------------
 

@@ -11,7 +11,7 @@ use Rattle.units.specs.Buffers.{span, whole}
 use Rattle.meaning.specs.Memory.{within, copy, paste}
 use Rattle.meaning.specs.Mappings.{In, Whole, Lands, Pages, page_count, starts, insert, remove, turn, turned, find, held, reach_of}
 use Rattle.meaning.specs.Worlds.{Choice, world, last_of}
-use Rattle.meaning.specs.Laws.{DisjointPages, Landings}
+use Rattle.meaning.specs.Laws.{DisjointPages, Landings, Bounced}
 use Rattle.meaning.specs.Calls.{unmap, cpu_write, card_read, card_write}
 use Rattle.meaning.specs.Checks.{verdict, none_of}
 use Rattle.meaning.specs.Effects.{new_mapping, copy_in, on_choice}
@@ -19,7 +19,7 @@ use Rattle.meaning.specs.Runs.{answers, final}
 use Rattle.meaning.proofs.Verdicts.{Admitted}
 use Rattle.meaning.proofs.Keeping.{Stable, opens_kept}
 use Rattle.isolation.specs.Lists.{struck, struck_answers}
-use Rattle.isolation.specs.Shielding.{Bounced, Shielding}
+use Rattle.isolation.specs.Shielding.{Shielding}
 use Rattle.isolation.specs.Example.{in_place, in_pool, choice, one_mapping, small, zeros, lent, written, unwritten, Example}
 use Rattle.isolation.proofs.Shielding.{shielded, isolated}
 

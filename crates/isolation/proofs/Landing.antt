@@ -4,9 +4,8 @@ use Rattle.std.proofs.lemmas.Bool.{cases_eq}
 use Rattle.units.specs.declared.mapping.Mapping.{Mapping}
 use Rattle.meaning.specs.Mappings.{In, Whole, Holds, Lands}
 use Rattle.meaning.specs.Worlds.{Setup}
-use Rattle.meaning.specs.Laws.{DisjointPages, Landings}
+use Rattle.meaning.specs.Laws.{DisjointPages, Landings, Bounced}
 use Rattle.meaning.proofs.Lists.{pairwise_in}
-use Rattle.isolation.specs.Shielding.{Bounced}
 use Rattle.isolation.proofs.Moves.{whole_holds, whole_or_not}
 
 -- what a shielding mapper shows of a list of open mappings

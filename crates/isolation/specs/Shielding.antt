@@ -1,17 +1,12 @@
 -- What the promise asks of a mapper: two of its laws, and that buffers which are not whole land in reserved frames. Bounce layers show it.
-use Rattle.std.specs.Prelude.{◌≡◌, ℕ, ◌/◌, Bool, true, List, []}
+use Rattle.std.specs.Prelude.{ℕ, List, []}
 use Rattle.units.specs.declared.mapping.Mapping.{Mapping}
 use Rattle.meaning.specs.Memory.{Bytes}
-use Rattle.meaning.specs.Mappings.{In, Whole, Lands}
 use Rattle.meaning.specs.Worlds.{Setup, Kind, world}
-use Rattle.meaning.specs.Laws.{DisjointPages, Landings}
+use Rattle.meaning.specs.Laws.{DisjointPages, Landings, Bounced}
 use Rattle.meaning.specs.Calls.{Call}
 use Rattle.meaning.specs.Effects.{opens_after}
 use Rattle.isolation.specs.Lists.{left_by}
-
--- an open mapping whose buffer is not whole lands in reserved frames only
-abbrev pub Bounced : (ℕ → Bool) → List Mapping → Type 0
-Bounced reserved o = (m : Mapping) → In m o → (Whole m → ⊥) → (q : ℕ) → Lands m q → reserved (q / 4096) ≡ true
 
 -- with n bytes of memory, whatever calls were made from set-up on
 pub record Shielded (K : Kind) (S : Setup) (n : ℕ) : Type 0 where

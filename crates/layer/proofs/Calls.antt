@@ -21,7 +21,7 @@ use Rattle.meaning.specs.Worlds.{Setup, Kind, World, Choice, world}
 use Rattle.meaning.specs.Calls.{Call, map, unmap, sync, Answer}
 use Rattle.meaning.specs.Effects.{answer, after, new_mapping, copy_in}
 use Rattle.meaning.specs.Told.{tells_at, tells_done}
-use Rattle.meaning.proofs.Lists.{insert_in, find_is_in}
+use Rattle.meaning.proofs.Lists.{insert_in, find_is_in, find_starts}
 use Rattle.meaning.proofs.Own.{own_unmap, own_sync}
 use Rattle.meaning.proofs.Verdicts.{Admitted}
 use Rattle.mapper.specs.Called.{here, seen, Called, Judged}
@@ -30,7 +30,7 @@ use Rattle.layer.specs.Pools.{below_setup, pool_count, has_pool, frame_for}
 use Rattle.layer.specs.Choosing.{layer_reserved, further, frames_request, layer_choice, layer_kind}
 use Rattle.layer.specs.Possible.{Over}
 use Rattle.layer.specs.Lawful.{Lawful}
-use Rattle.layer.proofs.Finding.{starts_facts, found_starts}
+use Rattle.layer.proofs.Finding.{starts_facts}
 use Rattle.layer.proofs.Lowered.{down_own, lowered_insert, lowered_remove, lowered_turn, find_lowered, reach_lowered}
 use Rattle.layer.proofs.LawsAbove.{both, reserved_as, disjoint_over, bounds_over, bounced_over}
 use Rattle.layer.proofs.Choosing.{moved_on, whole_true, whole_test, choice_whole, choice_frames}
@@ -186,10 +186,10 @@ module _ {M : Type 0} (I : Meaning M) (S : Setup) (o : List Mapping) (h : Over I
     found_card : c < S.cards
     found_card =
         let b = ((bounds_over K I.possible law S o h).each n found_in).card in
-        let s = (starts_facts c v n (found_starts c v o n found)).0 in omega arith
+        let s = (starts_facts c v n (find_starts c v o n found)).0 in omega arith
 
     found_below : find (lowered o) c (base_of v) ≡ Some (down n)
-    found_below = find_lowered S o (disjoint_over K I.possible law S o h) (some_over K I.possible law S o h) c v n found_in (found_starts c v o n found) found
+    found_below = find_lowered S o (disjoint_over K I.possible law S o h) (some_over K I.possible law S o h) c v n found_in (find_starts c v o n found) found
 
     -- the frames that the mapping was mapped below as, on their device pages
     abbrev closing : Call
@@ -201,7 +201,7 @@ module _ {M : Type 0} (I : Meaning M) (S : Setup) (o : List Mapping) (h : Over I
     pub unmap_opens : (m' : M) (x' : List ℕ) (t : Answer) → Called I m m' y x' closing t → I.opened m' ≡ lowered (remove c v o)
     unmap_opens m' x' t call =
         call.opens ∙ opens_below y closing ∙ close_opens U (seen (lowered o) y) c (base_of v) (down n) found_card size found_below
-        ∙ sym (lowered_remove S o (disjoint_over K I.possible law S o h) (some_over K I.possible law S o h) c v n found_in (found_starts c v o n found))
+        ∙ sym (lowered_remove S o (disjoint_over K I.possible law S o h) (some_over K I.possible law S o h) c v n found_in (find_starts c v o n found))
 
     -- below nothing is copied, since whole frames land where they are
     pub unmap_moves : (m' : M) (x' : List ℕ) (t : Answer) → Called I m m' y x' closing t → bytes_of x' ≡ bytes_of y
@@ -218,7 +218,7 @@ module _ {M : Type 0} (I : Meaning M) (S : Setup) (o : List Mapping) (h : Over I
       pub sync_opens : (m' : M) (x' : List ℕ) (t : Answer) → Called I m m' y x' turning t → I.opened m' ≡ lowered (turn (holder_after k) c v o)
       sync_opens m' x' t call =
           call.opens ∙ opens_below y turning ∙ turn_opens U (seen (lowered o) y) c (base_of v) (down n) found_card size found_below k turns
-          ∙ sym (lowered_turn S o (disjoint_over K I.possible law S o h) (some_over K I.possible law S o h) c v (holder_after k) n found_in (found_starts c v o n found))
+          ∙ sym (lowered_turn S o (disjoint_over K I.possible law S o h) (some_over K I.possible law S o h) c v (holder_after k) n found_in (find_starts c v o n found))
 
       pub sync_moves : (m' : M) (x' : List ℕ) (t : Answer) → Called I m m' y x' turning t → bytes_of x' ≡ bytes_of y
       sync_moves m' x' t call =

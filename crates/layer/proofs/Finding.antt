@@ -1,5 +1,5 @@
 -- What a look-up in a list of open mappings tells.
-use Rattle.std.proofs.Common.{◌≡◌, ℕ, Bool, true, false, cond, ◌⊎◌, List, [], ◌∷◌, Some, None, sym, refl, ap, ◌∙◌, subst, inl, inr, arith}
+use Rattle.std.proofs.Common.{◌≡◌, ℕ, Bool, true, false, cond, ◌⊎◌, List, [], ◌∷◌, Some, None, sym, refl, ap, ◌∙◌, inl, inr, arith}
 use Rattle.std.proofs.lemmas.Bool.Decides.{nat_tests}
 use Rattle.units.specs.declared.mapping.Holder.{Holder}
 use Rattle.units.specs.declared.mapping.Mapping.{Mapping}
@@ -10,16 +10,6 @@ starts_facts c v m e = (grind (arith, nat_tests), grind (arith, nat_tests))
 
 pub starts_test : (c v : ℕ) (m : Mapping) → m.card.0 ≡ c → m.device.0 ≡ v → starts c v m ≡ true
 starts_test c v m e f = grind (arith, nat_tests)
-
--- the mapping that is found starts there
-pub found_starts : (c v : ℕ) (o : List Mapping) (m : Mapping) → find o c v ≡ Some m → starts c v m ≡ true
-unfolding find
-found_starts c v [] m e = absurd (cc)
-found_starts c v (x ∷ xs) m e = go (starts c v x) refl e (λ i. found_starts c v xs m i)
-  where
-    go : (b : Bool) → starts c v x ≡ b → cond b (Some x) (find xs c v) ≡ Some m → (find xs c v ≡ Some m → starts c v m ≡ true) → starts c v m ≡ true
-    go true s h later = let same : x ≡ m = cc in subst (λ (z : Mapping). starts c v z ≡ true) same s
-    go false s h later = later h
 
 -- where none is found, none starts
 pub missed : (c v : ℕ) (o : List Mapping) → find o c v ≡ None → (n : Mapping) → In n o → starts c v n ≡ false

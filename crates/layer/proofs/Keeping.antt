@@ -12,7 +12,7 @@ use Rattle.meaning.specs.Worlds.{Setup, Kind, world}
 use Rattle.meaning.specs.Calls.{Call}
 use Rattle.meaning.specs.Effects.{new_mapping, opens_after}
 use Rattle.meaning.proofs.Facts.{within_from}
-use Rattle.meaning.proofs.Lists.{in_insert, insert_in, in_remove, in_turn, find_is_in, pair_insert, pair_remove, pair_turn, remove_none, turn_none}
+use Rattle.meaning.proofs.Lists.{in_insert, insert_in, in_remove, in_turn, find_is_in, find_starts, pair_insert, pair_remove, pair_turn, remove_none, turn_none}
 use Rattle.meaning.proofs.Verdicts.{Admitted}
 use Rattle.meaning.proofs.Keeping.{Stable, opens_kept}
 use Rattle.layer.specs.Lowering.{base_of, down, lowered}
@@ -20,7 +20,7 @@ use Rattle.layer.specs.Pools.{below_setup, pool_first, pool_count, in_pool, is_w
 use Rattle.layer.specs.Choosing.{frames_request, layer_choice, layer_kind}
 use Rattle.layer.specs.Possible.{Fitting, Standing, Refused, Over, layer_possible}
 use Rattle.layer.specs.Lawful.{Lawful}
-use Rattle.layer.proofs.Finding.{found_starts, missed}
+use Rattle.layer.proofs.Finding.{missed}
 use Rattle.layer.proofs.Passing.{grows, shrinks, turns}
 use Rattle.layer.proofs.Lowered.{down_own, span_frames, lowered_insert, lowered_remove, lowered_turn}
 use Rattle.layer.proofs.LawsAbove.{whole_holds, or_false, both, reserved_as, disjoint_over}
@@ -248,7 +248,7 @@ module _ (K : Kind) (P : Setup → List Mapping → Type 0) (law : Lawful K P) (
       go : (f : Option Mapping) → find o c v ≡ f → Over K P S (remove c v o)
       go None e = subst (Over K P S) (sym (remove_none c v o (missed c v o e))) h
       go (Some m) e = record {
-        below = subst (P (below_setup S)) (sym (lowered_remove S o (disjoint_over K P law S o h) some_over c v m (find_is_in c v o m e) (found_starts c v o m e)))
+        below = subst (P (below_setup S)) (sym (lowered_remove S o (disjoint_over K P law S o h) some_over c v m (find_is_in c v o m e) (find_starts c v o m e)))
             (shrinks K P law (below_setup S) (lowered o) h.below c (base_of v));
         standing = standing_remove S.frames (K.reserved (below_setup S)) (pool_first S) (pool_count S) c v o h.standing;
       }
@@ -259,7 +259,7 @@ module _ (K : Kind) (P : Setup → List Mapping → Type 0) (law : Lawful K P) (
       go : (f : Option Mapping) → find o c v ≡ f → Over K P S (turn t c v o)
       go None e = subst (Over K P S) (sym (turn_none t c v o (missed c v o e))) h
       go (Some m) e = record {
-        below = subst (P (below_setup S)) (sym (lowered_turn S o (disjoint_over K P law S o h) some_over c v t m (find_is_in c v o m e) (found_starts c v o m e)))
+        below = subst (P (below_setup S)) (sym (lowered_turn S o (disjoint_over K P law S o h) some_over c v t m (find_is_in c v o m e) (find_starts c v o m e)))
             (turns K P law (below_setup S) (lowered o) h.below t c (base_of v));
         standing = standing_turn S.frames (K.reserved (below_setup S)) (pool_first S) (pool_count S) t c v o h.standing;
       }

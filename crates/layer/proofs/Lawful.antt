@@ -11,12 +11,12 @@ use Rattle.units.specs.Buffers.{span, whole}
 use Rattle.units.specs.Faults.{is_choice_kind, raised, raises}
 use Rattle.meaning.specs.Mappings.{In, Pairwise, Lands, Pages}
 use Rattle.meaning.specs.Worlds.{Setup, Kind, Choice}
-use Rattle.meaning.specs.Laws.{DisjointPages, Landings, OneFrame, Accepts, EmptyRoom, ChoiceRefusals, Bounds}
+use Rattle.meaning.specs.Laws.{DisjointPages, Landings, Bounced, OneFrame, Accepts, EmptyRoom, ChoiceRefusals, Bounds}
 use Rattle.layer.specs.Lowering.{lowered}
 use Rattle.layer.specs.Pools.{below_setup, pool_count, has_pool, in_pool, frame_for}
 use Rattle.layer.specs.Choosing.{layer_reserved, no_frames_for, frames_request, layer_kind}
 use Rattle.layer.specs.Possible.{Refused, Over, layer_possible}
-use Rattle.layer.specs.Lawful.{Lawful, Bounced}
+use Rattle.layer.specs.Lawful.{Lawful}
 use Rattle.layer.proofs.Lowered.{lowered_none}
 use Rattle.layer.proofs.LawsAbove.{or_false, reserved_as, disjoint_over, landing_over, bounds_over, bounced_over}
 use Rattle.layer.proofs.Choosing.{raises_err, further_err, whole_test, choice_none, choice_whole, choice_full, choice_frames}
@@ -130,7 +130,7 @@ layer_lawful K P law = record {
   bounds = λ S o h. elim h [ inl f ↦ bounds_refused K S o f | inr y ↦ bounds_over K P law S o y ];
 }
 
-pub layer_bounced : (K : Kind) (P : Setup → List Mapping → Type 0) → Lawful K P → (S : Setup) (o : List Mapping) → layer_possible K P S o → Bounced (layer_kind K) S o
+pub layer_bounced : (K : Kind) (P : Setup → List Mapping → Type 0) → Lawful K P → (S : Setup) (o : List Mapping) → layer_possible K P S o → Bounced ((layer_kind K).reserved S) o
 layer_bounced K P law S o h = elim h [ inl f ↦ (λ m i. absurd (none K S o f m i)) | inr y ↦ bounced_over K P law S o y ]
 
 -- what the trait asks of a mapper, as one record
@@ -147,5 +147,5 @@ lawful_of I = record {
 pub over_any : {M : Type 0} (I : Meaning M) → Lawful (layer_kind I.kind) (layer_possible I.kind I.possible)
 over_any I = layer_lawful I.kind I.possible (lawful_of I)
 
-pub bounced_over_any : {M : Type 0} (I : Meaning M) (S : Setup) (o : List Mapping) → layer_possible I.kind I.possible S o → Bounced (layer_kind I.kind) S o
+pub bounced_over_any : {M : Type 0} (I : Meaning M) (S : Setup) (o : List Mapping) → layer_possible I.kind I.possible S o → Bounced ((layer_kind I.kind).reserved S) o
 bounced_over_any I = layer_bounced I.kind I.possible (lawful_of I)

@@ -8,10 +8,10 @@ use Rattle.units.specs.Buffers.{span}
 use Rattle.meaning.specs.Mappings.{In, Pairwise, Whole, Pages, first_page, first_frame, page_count, key, on_page, starts, turned, insert, remove, turn, find, reach_of}
 use Rattle.meaning.specs.Worlds.{Setup}
 use Rattle.meaning.specs.Laws.{DisjointPages}
-use Rattle.meaning.proofs.Lists.{find_none, find_in, find_is_in}
+use Rattle.meaning.proofs.Lists.{find_none, find_in, find_is_in, find_starts}
 use Rattle.meaning.proofs.Unique.{one_on_page, start_page}
 use Rattle.layer.specs.Lowering.{base_of, down, lowered}
-use Rattle.layer.proofs.Finding.{starts_facts, starts_test, found_starts, missed}
+use Rattle.layer.proofs.Finding.{starts_facts, starts_test, missed}
 
 -- One mapping ---------------------------------------------------------------------------------------------
 
@@ -211,7 +211,7 @@ module _ (S : Setup) (o : List Mapping) (law : DisjointPages S o) (some : (m : M
   find_above d e =
       let r = from_lowered d o (find_is_in c (base_of v) (lowered o) d e) in
       let m = r.mapping in
-      let s : starts c (base_of v) (down m) ≡ true = subst (λ (z : Mapping). starts c (base_of v) z ≡ true) r.same (found_starts c (base_of v) (lowered o) d e) in
+      let s : starts c (base_of v) (down m) ≡ true = subst (λ (z : Mapping). starts c (base_of v) z ≡ true) r.same (find_starts c (base_of v) (lowered o) d e) in
       let f = starts_facts c (base_of v) (down m) s in
       let here = on_page_below c v m (some m r.is_open) s in
       let one : (n : Mapping) → In n o → starts c v n ≡ true → n ≡ m = λ n j t. one_on_page S o law c (v / 4096) m n r.is_open j here (start_page c v n (some n j) t) in

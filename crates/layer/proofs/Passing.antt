@@ -14,11 +14,11 @@ use Rattle.meaning.specs.Worlds.{Setup, Kind, Choice, world}
 use Rattle.meaning.specs.Calls.{Call, map, unmap, sync}
 use Rattle.meaning.specs.Checks.{Verdict, fine, chosen, verdict}
 use Rattle.meaning.specs.Effects.{new_mapping, on_fine, on_choice, accepted}
-use Rattle.meaning.proofs.Lists.{find_is_in, remove_none, turn_none}
+use Rattle.meaning.proofs.Lists.{find_is_in, find_starts, remove_none, turn_none}
 use Rattle.meaning.proofs.Unique.{one_start}
 use Rattle.meaning.proofs.Verdicts.{Admitted}
 use Rattle.layer.specs.Lawful.{Lawful}
-use Rattle.layer.proofs.Finding.{starts_facts, found_starts, missed, turn_same}
+use Rattle.layer.proofs.Finding.{starts_facts, missed, turn_same}
 use Rattle.layer.proofs.Checks.{admitted_from, unmap_from, sync_from}
 
 module _ (K : Kind) (P : Setup → List Mapping → Type 0) (law : Lawful K P) (S : Setup) (o : List Mapping) (h : P S o) where
@@ -35,7 +35,7 @@ module _ (K : Kind) (P : Setup → List Mapping → Type 0) (law : Lawful K P) (
   card_of : (c v : ℕ) (m : Mapping) → find o c v ≡ Some m → c < S.cards
   card_of c v m e =
       let b = ((law.bounds S o h).each m (find_is_in c v o m e)).card in
-      let s = (starts_facts c v m (found_starts c v o m e)).0 in omega arith
+      let s = (starts_facts c v m (find_starts c v o m e)).0 in omega arith
 
   -- any mapping, by its device address
   pub shrinks : (c v : ℕ) → P S (remove c v o)
@@ -54,7 +54,7 @@ module _ (K : Kind) (P : Setup → List Mapping → Type 0) (law : Lawful K P) (
   stays t c v m e same = subst (P S) (sym (turn_same t c v o (λ n i s.
       let m_in = find_is_in c v o m e in
       let b = (law.bounds S o h).each in
-      ap (λ (z : Mapping). z.holder) (one_start S o (law.disjoint_pages S o h) c v m n m_in i (b m m_in).some (b n i).some (found_starts c v o m e) s) ∙ same))) h
+      ap (λ (z : Mapping). z.holder) (one_start S o (law.disjoint_pages S o h) c v m n m_in i (b m m_in).some (b n i).some (find_starts c v o m e) s) ∙ same))) h
 
   -- to any holder
   pub turns : (t : Holder) (c v : ℕ) → P S (turn t c v o)

@@ -1,7 +1,6 @@
--- What every mapper shows of the lists of open mappings that are possible, as one record; and what a layer shows beside.
-use Rattle.std.specs.Prelude.{◌≡◌, ℕ, ◌/◌, true, List}
+-- What every mapper shows of the lists of open mappings that are possible, as one record.
+use Rattle.std.specs.Prelude.{ℕ, List}
 use Rattle.units.specs.declared.mapping.Mapping.{Mapping}
-use Rattle.meaning.specs.Mappings.{In, Whole, Lands}
 use Rattle.meaning.specs.Worlds.{Setup, Kind, world}
 use Rattle.meaning.specs.Laws.{DisjointPages, Landings, EmptyRoom, ChoiceRefusals, Bounds}
 use Rattle.meaning.specs.Calls.{Call}
@@ -14,7 +13,3 @@ pub record Lawful (K : Kind) (possible : Setup → List Mapping → Type 0) : Ty
   pub empty_room : (S : Setup) (o : List Mapping) → possible S o → EmptyRoom K S
   pub refusals : (S : Setup) (o : List Mapping) → possible S o → ChoiceRefusals K S o
   pub bounds : (S : Setup) (o : List Mapping) → possible S o → Bounds S (K.reserved S) o
-
--- what is not whole lands in reserved frames only
-abbrev pub Bounced : Kind → Setup → List Mapping → Type 0
-Bounced K S o = (m : Mapping) → In m o → (Whole m → ⊥) → (q : ℕ) → Lands m q → K.reserved S (q / 4096) ≡ true

@@ -1,23 +1,26 @@
 -- Unmap and sync over a layer, from what the mapper below answers and leaves.
 use Rattle.mapper.specs.declared.laws.Meaning.{Ghosts as Meaning}
-use Rattle.std.proofs.Common.{◌≡◌, ℕ, ◌+◌, ◌*◌, ◌<◌, ◌≤◌, Bool, true, cond, not, ◌&&◌, eqb, List, length, Some, None, Ok, Err, Option, Result, sym, refl, ap, ◌∙◌, subst, inl, inr, arith}
-use Rattle.std.proofs.lemmas.Bool.{cases_Bool, cases_eq, cond-true, cond-false, eq-eqb}
+use Rattle.std.proofs.Common.{◌≡◌, ℕ, ◌+◌, ◌*◌, ◌/◌, ◌<◌, ◌≤◌, Bool, true, cond, not, ◌&&◌, eqb, List, length, Some, None, Ok, Err, Option, Result, sym, refl, ap, ◌∙◌, subst, inl, inr, arith}
+use Rattle.std.proofs.lemmas.Bool.{cases_Bool, cases_eq, cond-true, cond-false, eq-eqb, and_from}
 use Rattle.std.proofs.lemmas.Bool.Decides.{nat_tests}
+use Rattle.units.specs.declared.buffer.Buffer.{Buffer}
 use Rattle.units.specs.declared.fault.Fault.{Fault}
 use Rattle.units.specs.declared.mapping.Mapping.{Mapping}
 use Rattle.units.specs.declared.mapping.Sync.{Sync}
 use Rattle.units.specs.declared.number.Frame.{Frame}
+use Rattle.units.specs.Buffers.{span}
 use Rattle.units.specs.Directions.{code_of}
 use Rattle.units.specs.Faults.{raises}
 use Rattle.units.specs.Holders.{holder_after}
-use Rattle.meaning.specs.Memory.{bytes_of}
+use Rattle.meaning.specs.Memory.{bytes_of, within}
 use Rattle.meaning.specs.Mappings.{In, starts, first_frame, page_count, remove, turn, find}
 use Rattle.meaning.specs.Worlds.{Setup, World}
 use Rattle.meaning.specs.Calls.{Answer, unmap, sync, done}
 use Rattle.meaning.specs.Checks.{fine, unmap_checks, sync_checks, verdict}
 use Rattle.meaning.specs.Effects.{on_found, copy_at_unmap, copy_at_sync}
 use Rattle.meaning.specs.Told.{tells_done}
-use Rattle.meaning.proofs.Lists.{find_is_in}
+use Rattle.meaning.proofs.Facts.{within_true}
+use Rattle.meaning.proofs.Lists.{find_is_in, find_starts, in_remove}
 use Rattle.meaning.proofs.Unique.{one_start}
 use Rattle.mapper.specs.Tasks.{closes, turns}
 use Rattle.mapper.specs.Called.{Called}
@@ -27,14 +30,15 @@ use Rattle.layer.specs.Pools.{below_setup, pool_first, pool_count, is_whole}
 use Rattle.layer.specs.Possible.{Over}
 use Rattle.layer.specs.Lawful.{Lawful}
 use Rattle.layer.proofs.Calls.{unmap_succeeds, unmap_opens, unmap_moves, sync_succeeds, sync_opens, sync_moves}
-use Rattle.layer.proofs.Finding.{found_starts}
 use Rattle.layer.proofs.Keeping.{shrinks_over, turns_over}
 use Rattle.layer.proofs.Lawful.{lawful_of}
-use Rattle.layer.proofs.LawsAbove.{disjoint_over, bounds_over}
-use Rattle.layer.proofs.Loans.{borrows, own_loan, loan_remove, loan_turn}
+use Rattle.layer.proofs.LawsAbove.{both, disjoint_over, bounds_over}
+use Rattle.layer.proofs.Loans.{borrows, frames_in, frames_out, one_borrower, own_loan, loan_remove, loan_turn}
+use Rattle.layer.proofs.Lowered.{down_frame, down_count, from_lowered}
 use Rattle.pool.specs.declared.pool.Pool.{Pool}
 use Rattle.pool.specs.Lending.{loan_in, lent}
 use Rattle.pool.proofs.Lent.{lent_first, lent_count}
+use Rattle.layer_steps.specs.Freed.{Unlanded}
 use Rattle.layer_steps.specs.Tied.{setup_over, open_over, Tied}
 use Rattle.layer_steps.proofs.Over.{over_here, set_here, opened_here, settled}
 use Rattle.layer_steps.proofs.Step.{world_over, some_pool, Step, Named, named, Turns, turns_named}
@@ -79,7 +83,7 @@ module _ {M : Type 0} (I : Meaning M) (m : M) (q : Pool) (t : Tied I m q) (some 
   one : (k : Mapping) → In k o → starts c v k ≡ true → k ≡ n
   one k i s =
       let b = (bounds_over I.kind I.possible law S o h).each in
-      one_start S o (disjoint_over I.kind I.possible law S o h) c v n k is_in i (b n is_in).some (b k i).some (found_starts c v o n found) s
+      one_start S o (disjoint_over I.kind I.possible law S o h) c v n k is_in i (b n is_in).some (b k i).some (find_starts c v o n found) s
 
   abbrev given : Pool
   given = lent q (first_frame n) None
@@ -96,7 +100,39 @@ module _ {M : Type 0} (I : Meaning M) (m : M) (q : Pool) (t : Tied I m q) (some 
               ∙ sym (cond-false (borrows n f) None (loan_of o f) (ap (λ (z : Bool). not z && eqb (first_frame n) f) w))
         ]
         | inr w ↦ ap (λ (z : Bool). cond z None (loan_of o f)) (sym (ap (λ (z : Bool). not z && eqb (first_frame n) f) w))
-      ] ∙ sym (loan_remove S.frames (I.kind.reserved (below_setup S)) (pool_first S) (pool_count S) c v n o f h.standing is_in (found_starts c v o n found) one)
+      ] ∙ sym (loan_remove S.frames (I.kind.reserved (below_setup S)) (pool_first S) (pool_count S) c v n o f h.standing is_in (find_starts c v o n found) one)
+
+  -- of what is open below once it is closed, nothing lands in the frames that were lent to it
+  freed_below : (p : List Mapping) → p ≡ lowered (remove c v o) → Unlanded q p (first_frame n)
+  freed_below p e b lent k i a lands inside =
+      let reserved = I.kind.reserved (below_setup S) in
+      let each = h.standing.each in
+      let after = shrinks_over I.kind I.possible law S o h c v in
+      let r = from_lowered k (remove c v o) (subst (In k) e i) in
+      let j = in_remove c v r.mapping o r.is_open in
+      let loan : cond (is_whole n) None (Some n.buffer) ≡ Some b =
+      sym (own_loan S.frames reserved (pool_first S) (pool_count S) o h.standing n is_in) ∙ sym (t.lends some (first_frame n)) ∙ lent in
+      elim (cases_Bool (is_whole n)) [
+        | inl w ↦ absurd (let s = sym (cond-true (is_whole n) None (Some n.buffer) w) ∙ loan in cc)
+        | inr w ↦ (let s : Some n.buffer ≡ Some b = sym (cond-false (is_whole n) None (Some n.buffer) w) ∙ loan in
+            let u = within_true (first_frame n) (span b.address b.length) (a / 4096) inside in
+            let low = u.0 in
+            let high : a / 4096 < first_frame n + page_count n = subst (λ (z : Buffer). a / 4096 < first_frame n + span z.address z.length) (cc) u.1 in
+            let from : first_frame r.mapping ≤ a / 4096 = subst (λ (z : ℕ). z ≤ a / 4096) (ap first_frame r.same ∙ down_frame r.mapping) lands.from in
+            let to : a / 4096 < first_frame r.mapping + page_count r.mapping =
+            subst (λ (z : ℕ). a / 4096 < first_frame r.mapping + z) (ap page_count r.same ∙ down_count r.mapping)
+            (subst (λ (z : ℕ). a / 4096 < z + page_count k) (ap first_frame r.same ∙ down_frame r.mapping) lands.to) in
+            elim (cases_Bool (is_whole r.mapping)) [
+              | inl y ↦ absurd (both (within (pool_first S) (pool_count S) (a / 4096)) (frames_in S.frames reserved (pool_first S) (pool_count S) n (a / 4096) (each n is_in) w low high)
+                  (frames_out S.frames reserved (pool_first S) (pool_count S) r.mapping (a / 4096) (each r.mapping j) y from to))
+              | inr y ↦ (let z = one_borrower S.frames reserved (pool_first S) (pool_count S) o h.standing n r.mapping (a / 4096) is_in j w y low high from to in
+                  let kept = own_loan S.frames reserved (pool_first S) (pool_count S) (remove c v o) after.standing r.mapping r.is_open ∙ cond-false (is_whole r.mapping) None (Some r.mapping.buffer) y in
+                  let gone = loan_remove S.frames reserved (pool_first S) (pool_count S) c v n o (first_frame n) h.standing is_in (find_starts c v o n found) one
+                  ∙ cond-true (borrows n (first_frame n)) None (loan_of o (first_frame n)) (and_from (not (is_whole n)) (eqb (first_frame n) (first_frame n)) (ap not w) (eq-eqb (first_frame n) (first_frame n) refl)) in
+                  let same : loan_of (remove c v o) (first_frame r.mapping) ≡ loan_of (remove c v o) (first_frame n) = ap (λ (g : Mapping). loan_of (remove c v o) (first_frame g)) z in
+                  absurd (cc))
+            ])
+      ]
 
   module _ (y : List ℕ) (same : length y ≡ length x) where
     module _ (d len : ℕ) (checks : unmap_checks W o c d v len ≡ fine) where
@@ -131,6 +167,9 @@ module _ {M : Type 0} (I : Meaning M) (m : M) (q : Pool) (t : Tied I m q) (some 
             tied = after.tied;
             left = (call.left, sym (ap (λ (z : Option Mapping). on_found z q (λ k. lent q (first_frame k) None)) found));
           }
+
+      freed_then : (m' : M) (x' : List ℕ) (a : Result (Unit {0}) Fault) → Called I m m' y x' (unmap c d (base_of v) (page_count n * 4096)) (tells_done a) → Unlanded q (I.opened m') (first_frame n)
+      freed_then m' x' a call = freed_below (I.opened m') (unmap_opens I S o h m set opened c v n found y size m' x' (tells_done a) (as_named m' x' (tells_done a) call))
 
       -- an answer below that is passed on is no refusal
       closes_only : (m' : M) (x' : List ℕ) (a : Result (Unit {0}) Fault) (f : Fault) → Err f ≡ raises a → Called I m m' y x' (unmap c d (base_of v) (page_count n * 4096)) (tells_done a) → ⊥
@@ -205,6 +244,9 @@ module _ {M : Type 0} (I : Meaning M) (m : M) (q : Pool) (t : Tied I m q) (x : L
 
     pub unmap_only : (f : Fault) → Err f ≡ raises a → ⊥
     unmap_only f e = closes_only I m q t pool x c v n k.1 y same d len k.0 m' x' a f e below
+
+    pub unmap_frees : (f : ℕ) → f ≡ first_frame n → Unlanded q (I.opened m') f
+    unmap_frees f frame = subst (Unlanded q (I.opened m')) (sym frame) (freed_then I m q t pool x c v n k.1 y same d len k.0 m' x' a below)
 
     pub unmap_step : bytes_of y ≡ copy_at_unmap n (bytes_of x) → Ok tt ≡ raises a → (q' : Pool) (f : ℕ) → f ≡ first_frame n → q' ≡ lent q f None → ((g : ℕ) → loan_in q' g ≡ cond (eqb f g) None (loan_in q g))
         → Step I m q x m' q' x' (unmap c d v len) (closes c v) done

@@ -1,3 +1,4 @@
 pub mod Tied
 pub mod After
 pub mod Holding
+pub mod Freed

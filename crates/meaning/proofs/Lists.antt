@@ -268,6 +268,16 @@ find_is_in c v (x ∷ xs) m e = go (starts c v x) e (λ i. find_is_in c v xs m i
     go true h later = inl (cc)
     go false h later = inr (later h)
 
+-- the mapping that is found starts there
+pub find_starts : (c v : ℕ) (o : List Mapping) (m : Mapping) → find o c v ≡ Some m → starts c v m ≡ true
+unfolding find
+find_starts c v [] m e = absurd (cc)
+find_starts c v (x ∷ xs) m e = go (starts c v x) refl e (λ i. find_starts c v xs m i)
+  where
+    go : (b : Bool) → starts c v x ≡ b → cond b (Some x) (find xs c v) ≡ Some m → (find xs c v ≡ Some m → starts c v m ≡ true) → starts c v m ≡ true
+    go true s h later = let same : x ≡ m = cc in subst (λ (z : Mapping). starts c v z ≡ true) same s
+    go false s h later = later h
+
 pub held_insert : (b : ℕ) (m : Mapping) (o : List Mapping) → held (insert m o) b ≡ ((card_holds m.holder && covers m b) || held o b)
 unfolding held insert
 held_insert b m [] = refl

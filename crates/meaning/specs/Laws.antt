@@ -20,6 +20,10 @@ pub record Landings (reserved : ℕ → Bool) (o : List Mapping) : Type 0 where
       → (Whole m → ⊥) × ((q : ℕ) → Lands m q → reserved (q / 4096) ≡ true)
   pub landings_apart : Pairwise (λ m n. (q : ℕ) → Lands m q → Lands n q → reserved (q / 4096) ≢ true) o
 
+-- an open mapping whose buffer is not whole lands in reserved frames only; not every mapper shows it, a bounce layer does
+abbrev pub Bounced : (ℕ → Bool) → List Mapping → Type 0
+Bounced reserved o = (m : Mapping) → In m o → (Whole m → ⊥) → (q : ℕ) → Lands m q → reserved (q / 4096) ≡ true
+
 -- a whole buffer of one unreserved frame, for a card
 pub record OneFrame (S : Setup) (reserved : ℕ → Bool) (r : Request) : Type 0 where
   pub card : r.card.0 < S.cards

@@ -1,9 +1,9 @@
 -- What unmap closes: its pages are open in the tables, and are then named by no entry of the cache.
-use Rattle.std.proofs.Common.{◌≡◌, ℕ, ◌+◌, ◌^◌, ◌<◌, ◌≤◌, Bool, true, false, cond, List, [], ◌∷◌, Some, sym, refl, ap, ◌∙◌, subst, arith}
+use Rattle.std.proofs.Common.{◌≡◌, ℕ, ◌+◌, ◌^◌, ◌<◌, ◌≤◌, true, List, Some, sym, ap, ◌∙◌, subst, arith}
 use Rattle.std.proofs.lemmas.Bool.Decides.{nat_tests}
 use Rattle.units.specs.declared.mapping.Mapping.{Mapping}
 use Rattle.meaning.specs.Mappings.{In, key, first_page, page_count, starts, find, remove}
-use Rattle.meaning.proofs.Lists.{find_is_in}
+use Rattle.meaning.proofs.Lists.{find_is_in, find_starts}
 use Rattle.pages.specs.Lawful.{lawful}
 use Rattle.pages.proofs.Facts.{Fitting, lawful_facts, lawful_remove}
 use Rattle.cache.specs.declared.cache.Translation.{Translation}
@@ -22,16 +22,6 @@ use Rattle.tables.specs.Left.{Kept, Shrunk, TablesLeft}
 use Rattle.tables.specs.Left as left
 use Rattle.tables.specs.declared.tables.Tables.{Tables}
 use Rattle.tables.proofs.Calls.{setup_in, open_in}
-
--- what is found starts there
-pub find_starts : (c v : ℕ) (o : List Mapping) (m : Mapping) → find o c v ≡ Some m → starts c v m ≡ true
-unfolding find
-find_starts c v [] m e = absurd (cc)
-find_starts c v (k ∷ o) m e = go (starts c v k) refl e (find_starts c v o m)
-  where
-    go : (b : Bool) → starts c v k ≡ b → cond b (Some k) (find o c v) ≡ Some m → (find o c v ≡ Some m → starts c v m ≡ true) → starts c v m ≡ true
-    go true s h later = let same : k ≡ m = cc in ap (starts c v) (sym same) ∙ s
-    go false s h later = later h
 
 -- what unmap leaves, of the one mapping that is found
 pub closes_left : (C T : ℕ) (x y : Kept) (c v : ℕ) (m : Mapping) → find (left.open_in x) c v ≡ Some m → Shrunk C T x y m → TablesLeft C T x (closes c v) y
