@@ -4,6 +4,7 @@ ghost use Rattle.std.specs.Prelude.{◌≡◌, ◌+◌, ◌≤◌, length};
 ghost use Rattle.meaning.specs.Memory.{bytes_of, clear, copy, paste, read_into};
 
 // Writes the bytes at an address.
+#[tactic(auto, using(crate::proofs::Part::written_at))]
 pub fn write_bytes(memory: &mut [u8], at: usize, bytes: &[u8])
     requires { at + length bytes.now ≤ length memory.old }
     ensures { bytes_of memory.new ≡ paste at bytes.now (bytes_of memory.old) }
@@ -11,16 +12,27 @@ pub fn write_bytes(memory: &mut [u8], at: usize, bytes: &[u8])
     memory[at..at + bytes.len()].copy_from_slice(bytes);
 }
 
-// Copies bytes to another place, which may overlap them.
+// Copies bytes to another place, which may overlap them. Where the two lie apart, as in each call, it is a copy between two parts
+// of memory, at the speed of `memcpy`; `copy_within` goes byte by byte, and backward to a higher place.
+#[tactic(auto, using(crate::proofs::Part::copied_up, crate::proofs::Part::copied_down, crate::proofs::Part::copied_within))]
 pub fn copy_bytes(memory: &mut [u8], to: usize, from: usize, count: usize)
     requires target { to + count ≤ length memory.old }
     requires source { from + count ≤ length memory.old }
     ensures { bytes_of memory.new ≡ copy to from count (bytes_of memory.old) }
 {
-    memory.copy_within(from..from + count, to);
+    if from + count <= to {
+        let (below, above) = memory.split_at_mut(to);
+        write_bytes(above, 0, &below[from..from + count]);
+    } else if to + count <= from {
+        let (below, above) = memory.split_at_mut(from);
+        write_bytes(below, to, &above[..count]);
+    } else {
+        memory.copy_within(from..from + count, to);
+    }
 }
 
 // Makes bytes 0.
+#[tactic(auto, using(crate::proofs::Part::cleared_at))]
 pub fn clear_bytes(memory: &mut [u8], at: usize, count: usize)
     requires { at + count ≤ length memory.old }
     ensures { bytes_of memory.new ≡ clear at count (bytes_of memory.old) }
@@ -29,6 +41,7 @@ pub fn clear_bytes(memory: &mut [u8], at: usize, count: usize)
 }
 
 // Reads bytes into the front of an answer buffer. The count stands beside the buffer, since its further bytes stay.
+#[tactic(auto, using(crate::proofs::Part::front_bytes))]
 pub fn read_bytes(memory: &[u8], from: usize, count: usize, out: &mut [u8])
     requires source { from + count ≤ length memory.now }
     requires room { count ≤ length out.old }
