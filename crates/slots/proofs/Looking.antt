@@ -25,7 +25,7 @@ use Rattle.pages.proofs.Made.{made_each}
 use Rattle.pages.proofs.Facts.{lawful_facts}
 use Rattle.pages.proofs.Laws.{disjoint}
 use Rattle.slots.specs.declared.slot.Slot.{Slot}
-use Rattle.slots.specs.Slots.{free_slot, holding, is_free, has, opened_of, reach_by, no_pages, pages_in, all_pages, first_becomes}
+use Rattle.slots.specs.Slots.{free_slot, holding, is_free, has, place_in, opened_of, reach_by, no_pages, pages_in, all_pages, first_becomes}
 use Rattle.slots.proofs.Slots.{in_opened, nowhere, count_none, count_free, count_held, count_most, close_slot, turn_slot}
 
 -- the mapping of a slot of which a question holds
@@ -100,10 +100,7 @@ none_such such f (s ∷ ss) h = ap (λ (z : List Slot). s ∷ z) (none_such such
 
 -- What a search of the slots gives ----------------------------------------------------------------------
 
--- the place that a search gave
-abbrev place_in : (Slot → Bool) → List Slot → Option ℕ
-place_in such ss = cond (ltb (position_or_len such ss) (length ss)) (Some (position_or_len such ss)) None
-
+-- a search gave a place
 pub found_place : (such : Slot → Bool) (ss : List Slot) (i : ℕ) → Some i ≡ place_in such ss → (i < length ss) × (such (get_or ss i free_slot) ≡ true)
     × ((k : ℕ) → k < i → such (get_or ss k free_slot) ≡ false)
 found_place such ss i e = (

@@ -1,5 +1,6 @@
 -- What slots hold, as open mappings, as reach and as pages in use.
-use Rattle.std.specs.Prelude.{◌≡◌, ℕ, Bool, true, false, cond, List, [], ◌∷◌, Some, None, Option, ◌==◌}
+use Rattle.std.specs.Prelude.{◌≡◌, ℕ, Bool, true, false, cond, List, [], ◌∷◌, length, Some, None, Option, ◌==◌, nat_lt}
+use Rattle.std.specs.List.{position_or_len}
 use Rattle.units.specs.declared.mapping.Holder.{Holder}
 use Rattle.units.specs.declared.mapping.Mapping.{Mapping}
 use Rattle.units.specs.declared.mapping.Reach.{Reach}
@@ -23,6 +24,10 @@ is_free s = on_found s.mapping true (λ m. false)
 -- the slot's mapping is such
 abbrev pub has : (Mapping → Bool) → Slot → Bool
 has such s = on_found s.mapping false such
+
+-- the place of the first slot that is such, if there is one
+abbrev pub place_in : (Slot → Bool) → List Slot → Option ℕ
+place_in such ss = cond (nat_lt (position_or_len such ss) (length ss)) (Some (position_or_len such ss)) None
 
 -- each slot holds one open mapping
 unfoldable pub opened_of : List Slot → List Mapping

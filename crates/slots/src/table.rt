@@ -1,10 +1,10 @@
 // A fixed table of slots, one lent at a time to open, turn or close it.
 ghost use Rattle.std.specs.Prelude.{◌≡◌, ◌<◌, ◌≤◌, true, length, ◌≢◌, nat_le, [], slice_index_or};
 ghost use Rattle.units.specs.declared.mapping.Mapping.{Mapping as Opened};
-ghost use Rattle.meaning.specs.Mappings.{In, key, insert, remove, turn, find, held, reach_of};
+ghost use Rattle.meaning.specs.Mappings.{In, key, insert, remove, starts, turn, find, held, reach_of};
 ghost use Rattle.meaning.specs.Worlds.{Setup};
 ghost use Rattle.pages.specs.Lawful.{lawful};
-ghost use Rattle.slots.specs.Slots.{free_slot, opened_of, all_pages, pages_in, taken, freed, passed};
+ghost use Rattle.slots.specs.Slots.{free_slot, has, place_in, opened_of, all_pages, pages_in, taken, freed, passed};
 
 use crate::slot::Slot;
 use chooser::Range;
@@ -30,11 +30,12 @@ impl<const N: usize> SlotTable<N> {
     }
 
     // How many slots hold a mapping.
+    #[tactic(auto, using(crate::proofs::Slots::count_most))]
     pub fn count(&self) -> usize
         ensures value { result ≡ length (opened_of self.now.slots) }
         ensures within { result ≤ N }
     {
-        self.slots.iter().filter(|slot| !slot.is_free()).count()
+        count_held(&self.slots)
     }
 
     // All slots hold a mapping.
@@ -56,22 +57,30 @@ impl<const N: usize> SlotTable<N> {
         )
     }
 
+    // The place of the first slot whose mapping starts at the card's device address. A function of its own, so that a call which
+    // looks for a mapping and then changes it searches once.
+    fn place_at(&self, card: Card, device: DeviceAddress) -> Option<usize>
+        ensures { result ≡ place_in (has (starts card.0 device.0)) self.now.slots }
+    {
+        self.slots
+            .iter()
+            .position(|slot| slot.starts_at(card, device))
+    }
+
     // The mapping of the card that starts at the device address.
     // That the open mappings are lawful is a premise here and below, and no invariant: `open` would then ask it of its caller.
     pub fn mapping_at(&self, card: Card, device: DeviceAddress) -> Option<Mapping>
         ensures { (S : Setup) → lawful S (opened_of self.now.slots) ≡ true → result ≡ find (opened_of self.now.slots) card.0 device.0 }
     {
-        self.slots
-            .iter()
-            .find(|slot| slot.starts_at(card, device))?
-            .mapping
+        let place = self.place_at(card, device)?;
+        self.slots[place].mapping
     }
 
     // A card holds the byte.
     pub fn is_held(&self, address: u32) -> bool
         ensures { result ≡ held (opened_of self.now.slots) address }
     {
-        self.slots.iter().any(|slot| slot.holds_byte(address))
+        is_any_held(&self.slots, address)
     }
 
     // What the card reaches at the device page.
@@ -101,12 +110,8 @@ impl<const N: usize> SlotTable<N> {
         ensures closes { (S : Setup) → lawful S (opened_of self.old.slots) ≡ true → opened_of self.new.slots ≡ remove card.0 device.0 (opened_of self.old.slots) }
         ensures first { self.new.slots ≡ freed card.0 device.0 self.old.slots }
     {
-        if let Some(i) = self
-            .slots
-            .iter()
-            .position(|slot| slot.starts_at(card, device))
-        {
-            self.slots[i].close();
+        if let Some(place) = self.place_at(card, device) {
+            self.slots[place].close();
         }
     }
 
@@ -115,12 +120,22 @@ impl<const N: usize> SlotTable<N> {
         ensures turns { (S : Setup) → lawful S (opened_of self.old.slots) ≡ true → opened_of self.new.slots ≡ turn holder card.0 device.0 (opened_of self.old.slots) }
         ensures first { self.new.slots ≡ passed holder card.0 device.0 self.old.slots }
     {
-        if let Some(i) = self
-            .slots
-            .iter()
-            .position(|slot| slot.starts_at(card, device))
-        {
-            self.slots[i].turn(holder);
+        if let Some(place) = self.place_at(card, device) {
+            self.slots[place].turn(holder);
         }
     }
+}
+
+// How many of the slots hold a mapping.
+fn count_held(slots: &[Slot]) -> usize
+    ensures { result ≡ length (opened_of slots.now) }
+{
+    slots.iter().filter(|slot| !slot.is_free()).count()
+}
+
+// A card holds the byte through one of the slots.
+fn is_any_held(slots: &[Slot], address: u32) -> bool
+    ensures { result ≡ held (opened_of slots.now) address }
+{
+    slots.iter().any(|slot| slot.holds_byte(address))
 }
