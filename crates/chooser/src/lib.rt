@@ -11,4 +11,4 @@ mod tests;
 pub use gap::{Gap, Range};
 pub use laws::facts;
 pub use number::Number;
-pub use space::Space;
+pub use space::{Space, choose};

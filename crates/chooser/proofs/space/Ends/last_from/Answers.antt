@@ -3,7 +3,7 @@ use Rattle.std.proofs.lemmas.Iterator.{YieldsList-from_slice}
 use Rattle.std.proofs.lemmas.Iterator.Consumers.{fold_from_yields_List}
 use Rattle.chooser.specs.Finding.{cut_by}
 use Rattle.chooser.proofs.Folds.{last_fold}
-use Rattle.chooser.proofs.space.Space.last_from.Goals as goal
+use Rattle.chooser.proofs.space.Ends.last_from.Goals as goal
 
 pub returns : goal.returns
 returns g c =

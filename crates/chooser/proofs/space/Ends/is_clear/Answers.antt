@@ -3,7 +3,7 @@ use Rattle.std.proofs.lemmas.Iterator.{YieldsList-from_slice}
 use Rattle.std.proofs.lemmas.Iterator.Search.{any_from_yields_List}
 use Rattle.chooser.specs.Finding.{held}
 use Rattle.chooser.proofs.Folds.{clear_any}
-use Rattle.chooser.proofs.space.Space.is_clear.Goals as goal
+use Rattle.chooser.proofs.space.Ends.is_clear.Goals as goal
 
 pub returns : goal.returns
 returns g c =
