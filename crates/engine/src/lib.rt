@@ -24,6 +24,7 @@ pub struct Engine<M: Mapper> {
 }
 
 // A block adds one to its card's count, which stops at 4,294,967,295, and becomes the card's latest; no other fault does.
+#[tactic(auto, using(crate::proofs::Making::noted_set))]
 fn note(reports: &mut [Report], card: Card, device: DeviceAddress, fault: Fault)
     requires { is_block_kind fault.kind ≡ true → card.0 < length reports.old }
     ensures { reports_of reports.new ≡ noted card.0 device.0 (errs fault) (reports_of reports.old) }
@@ -85,7 +86,7 @@ impl<M: Mapper> Engine<M> {
     }
 
     // Reads for a card; a block is counted. The count stands beside the buffer, whose further bytes stay.
-    #[tactic(auto, using(crate::proofs::Making::read_blocked))]
+    #[tactic(auto, using(crate::proofs::Making::read_blocked, crate::proofs::Making::few_cards))]
     pub fn card_read(
         &mut self,
         memory: &[u8],
@@ -104,7 +105,7 @@ impl<M: Mapper> Engine<M> {
     }
 
     // Writes for a card; a block is counted.
-    #[tactic(auto, using(crate::proofs::Making::write_blocked))]
+    #[tactic(auto, using(crate::proofs::Making::write_blocked, crate::proofs::Making::few_cards))]
     pub fn card_write(
         &mut self,
         memory: &mut [u8],

@@ -52,7 +52,7 @@ pub ran_none : (W : World) (s : State) → Ran W s s [] []
 unfolding commands_of answers_of calls_of answers final Buffered
 ran_none W s = record { asked = refl; answered = refl; left = refl; buffered = tt }
 
-ran_more : (W : World) (s t u : State) (before past : List Step) (x y : Step) → Ran W s t before past → answer_of y ≡ answer W t (call_of x) → u ≡ after W t (call_of x)
+pub ran_more : (W : World) (s t u : State) (before past : List Step) (x y : Step) → Ran W s t before past → answer_of y ≡ answer W t (call_of x) → u ≡ after W t (call_of x)
     → bytes_of (vec_items y.out) ≡ buffer_after (answer_of y) (vec_items x.out) → y.command ≡ x.command → length (vec_items y.out) ≡ length (vec_items x.out)
     → Ran W s u (before ++ (x ∷ [])) (past ++ (y ∷ []))
 ran_more W s t u before past x y r a e b c n = record {
