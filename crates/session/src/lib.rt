@@ -1,14 +1,16 @@
-// A script as the steps of a run.
+// A script as the steps of a run, and one record played by itself.
 #![tactic(auto)]
 
 ghost use Rattle.std.specs.Prelude.{◌≡◌, IfOk, replicate};
 ghost use Rattle.script.specs.Items.{meant as item_of};
 ghost use Rattle.script.specs.Scripts.{read_all};
-ghost use Rattle.runs.specs.Commands.{call_of};
+ghost use Rattle.runs.specs.Commands.{call_of, spoken, MadeOne};
 ghost use Rattle.runs.specs.Scripted.{call_for};
 ghost use Rattle.session.specs.Asking.{Asked};
 
-use runs::{Reply, Step};
+use engine::Engine;
+use mapper::Mapper;
+use runs::{Reply, Step, make};
 use script::{Reader, Record};
 use std::alloc::{AllocError, Global};
 use units::Fault;
@@ -57,4 +59,17 @@ fn step_for(alloc: Global, asked: Record<'_>) -> Result<Step<'_>, AllocError>
         out,
         reply: Ok(Reply::Done),
     })
+}
+
+// Plays one record: answers and leaves what the definition of its call says. For whoever takes a script record by record, over
+// any mapper. Memory is lent beside the engine, as in `Mapper`.
+pub fn play<M: Mapper>(
+    engine: &mut Engine<M>,
+    memory: &mut [u8],
+    asked: Record<'_>,
+    out: &mut [u8],
+) -> Result<Reply, Fault>
+    ensures { MadeOne M.Meaning engine.old engine.new memory.old memory.new out.old out.new (call_for (item_of asked.entry) out.old) (spoken result out.new) }
+{
+    make(engine, memory, asked.into(), out)
 }
