@@ -7,6 +7,8 @@ mod tests {
     use mapper::Mapper;
     use rack::bare_windows;
     use runs::{Command, Reply, make};
+    use script::Record;
+    use session::play;
     use units::{
         Block, Buffer, Card, DeviceAddress, DevicePage, Fault, FaultKind, Geometry, Report, Request,
     };
@@ -32,6 +34,10 @@ mod tests {
 
     fn cpu_read(count: usize) -> Command<'static> {
         Command::CpuRead { address: 0, count }
+    }
+
+    fn read_of(address: u32, count: u8) -> Record<'static> {
+        Record::CpuRead { address, count }
     }
 
     fn card_read(card: u8, device: u64, count: usize) -> Command<'static> {
@@ -194,6 +200,25 @@ mod tests {
         let refused = make(&mut engine, &mut memory, cpu_read(2), &mut short);
         assert_eq!(rt; told(refused), Err((3, 0, 2)));
         assert_eq!(rt; short[0], 9);
+    }
+
+    // Records played one by one: two bytes are written and three read back, and a read past the end of memory is refused.
+    #[test]
+    fn records_one_by_one(rt: HostRuntime) {
+        let mut engine = bare_windows();
+        let mut memory = [0u8; 32768];
+        let mut out = [9u8; 4];
+        let write = Record::CpuWrite {
+            address: 0x100,
+            bytes: b"AB",
+        };
+        let done = play(&mut engine, &mut memory, write, &mut out);
+        assert_eq!(rt; done, Ok(Reply::Done));
+        let reply = play(&mut engine, &mut memory, read_of(0x100, 3), &mut out);
+        assert_eq!(rt; reply, Ok(Reply::Bytes));
+        assert_eq!(rt; out, [0x41, 0x42, 0, 9]);
+        let past = play(&mut engine, &mut memory, read_of(0x8000, 1), &mut out);
+        assert_eq!(rt; told(past), Err((4, 0, 32768)));
     }
 
     #[test]
